@@ -1,0 +1,9 @@
+pub mod Bools
+pub mod Lists
+pub mod Lines
+pub mod Kids
+pub mod Meets
+pub mod Roots
+pub mod Rulings
+pub mod Sound
+pub mod Shape

@@ -1,0 +1,15 @@
+// The two countings, and the refusal.
+
+// A node of the species tree, by its number.
+pub struct SpeciesNode(pub usize);
+
+// A node of the gene tree, by its number.
+pub struct GeneNode(pub usize);
+
+// Why a call refuses: the number of 01's table, the tree (0 none, 1 species, 2 gene) and the place, which is a node of that
+// tree, a block of an image or a byte of a text, or 0.
+pub struct Refusal {
+    pub number: u16,
+    pub tree: u16,
+    pub place: usize,
+}
