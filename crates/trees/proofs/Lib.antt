@@ -7,3 +7,4 @@ pub mod Roots
 pub mod Rulings
 pub mod Sound
 pub mod Shape
+pub mod Judged

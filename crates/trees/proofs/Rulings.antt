@@ -12,6 +12,25 @@ use Rattle.trees.specs.Rulings.{Ruling, accepted, refused, Rule, whole, 
 use Rattle.trees.proofs.Bools.{test, T-true, true-T}
 use Rattle.trees.proofs.Lists.{lowest-is, lowest-none, lowest-cases}
 
+-- rules joined
+pub every-join : {P : Rule → Type 0} (rs ss : List Rule) → Every P rs → Every P ss → Every P (rs ++ ss)
+every-join [] ss done q = q
+every-join (r ∷ rs) ss (and p ps) q = and p (every-join rs ss ps q)
+
+pub every-left : {P : Rule → Type 0} (rs ss : List Rule) → Every P (rs ++ ss) → Every P rs
+every-left [] ss q = done
+every-left (r ∷ rs) ss (and p q) = and p (every-left rs ss q)
+
+pub every-right : {P : Rule → Type 0} (rs ss : List Rule) → Every P (rs ++ ss) → Every P ss
+every-right [] ss q = q
+every-right (r ∷ rs) ss (and p q) = every-right rs ss q
+
+pub every-head : {P : Rule → Type 0} {r : Rule} {rs : List Rule} → Every P (r ∷ rs) → P r
+every-head (and p q) = p
+
+pub every-tail : {P : Rule → Type 0} {r : Rule} {rs : List Rule} → Every P (r ∷ rs) → Every P rs
+every-tail (and p q) = q
+
 -- either a rule passes, or there is the one place at which it is refused
 pub rule-cases : (r : Rule) → Passes r ⊎ ((v : ℕ) × Fails r v)
 rule-cases (whole n t v b) = elim (test b) [ inl e ↦ inl (true-T e) | inr e ↦ inr (v, (refl, e)) ]

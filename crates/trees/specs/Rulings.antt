@@ -5,6 +5,7 @@
 --   each n t k ok       == the rule of number n that is a test ok of each of k nodes (or blocks); refused at the lowest that fails
 --   ruling rs a         == refused by the first rule of rs that fails, else accepted with a
 --                                                   (01, "Each number is tested over the whole table before the following one")
+--   verdict rs          == the same where there is nothing to answer but that it is sound
 --   Passes r, Fails r v <-> the rule r holds everywhere; r is refused at v and, if it is a test of each node, holds below v
 -- Assumes nothing.
 use Prim.Native.Nat.{ℕ, _<_}
@@ -31,6 +32,12 @@ unfoldable pub ruling : {A : Type 0} → List Rule → A → Ruling A
 ruling [] a = accepted a
 ruling (whole n t v b ∷ rs) a = pick b (ruling rs a) (refused n t v)
 ruling (each n t k ok ∷ rs) a = pick (eqb (lowest ok k) k) (ruling rs a) (refused n t (lowest ok k))
+
+pub data Fine : Type 0 where
+  fine : Fine
+
+abbrev pub verdict : List Rule → Ruling Fine
+verdict rs = ruling rs fine
 
 unfoldable pub numberOf : Rule → ℕ
 numberOf (whole n t v b) = n

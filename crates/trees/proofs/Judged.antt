@@ -1,0 +1,222 @@
+-- The rules 1 to 6 all pass exactly if the tables are sound. Assumes nothing.
+use Prim.Native.Nat.{ℕ, zero, suc, _+_, _≤_, _<_}
+use native.Mathlib.Omega.{arith}
+use native.Mathlib.Decide.{ℕ-discrete, decLt}
+use mathlib.Core.Path.{_≡_, refl, sym, ap, _∙_}
+use mathlib.Core.Logic.{_⊎_, inl, inr, _≢_, _↔_}
+use mathlib.Core.Bool.{Bool, true, false, _&&_, _||_, not}
+use mathlib.Core.List.{List, [], _∷_, _++_}
+use lib.ListN.{length}
+use lib.Dec.{T, eqb, ltb, leb, eqb→eq, eqb-refl, ltb→lt, lt→ltb, leb→le, le→leb, T-not, not-T}
+use borrow.Author.Tests.{eq-eqb, ne-eqb}
+use Rattle.trees.specs.Lists.{range, any}
+use Rattle.trees.specs.Trees.{none, up, nodes, kids, Leaf, Inner, isLeaf}
+use Rattle.trees.specs.Tables.{taxon, Pair}
+use Rattle.trees.specs.Sound.{SoundTree, Distinct, Known, SoundSpecies, Sound}
+use Rattle.trees.specs.Rulings.{Ruling, accepted, refused, Rule, whole, each, pick, ruling, verdict, fine, Passes, Every, done, and}
+use Rattle.trees.specs.Rules.{sized, ordered, paired, marked, fresh, known, shapeRules, speciesRules, familyRules, geneRules, pairRules}
+use Rattle.trees.proofs.Bools.{or-left, or-right, or-cases, and-both, and-left, and-right, test, T-true, true-T}
+use Rattle.trees.proofs.Lists.{any-has, has-any, has-range, range-has}
+use Rattle.trees.proofs.Kids.{has-node, node-has}
+use Rattle.trees.proofs.Sound.{leaf-is, is-leaf, not-leaf}
+use Rattle.trees.proofs.Rulings.{ruling-accepted, ruling-passes, every-join, every-left, every-right, every-head, every-tail}
+
+-- ---- one tree
+
+record Sized (par tax : List ℕ) : Type 0 where
+  some : 1 ≤ length par
+  few : length par ≤ 2047
+  even : length tax ≡ length par
+
+sized-is : (par tax : List ℕ) → T (sized par tax) → Sized par tax
+unfolding sized
+sized-is par tax t =
+    let n = length par in
+    let a = leb 1 n in
+    let b = leb n 2047 in
+    let c = eqb (length tax) n in
+    let l = and-left (a && b) c t in
+    record { some = leb→le 1 n (and-left a b l); few = leb→le n 2047 (and-right a b l); even = eqb→eq (length tax) n (and-right (a && b) c t) }
+
+is-sized : (par tax : List ℕ) → Sized par tax → T (sized par tax)
+unfolding sized
+is-sized par tax s =
+    let n = length par in
+    and-both (leb 1 n && leb n 2047) (eqb (length tax) n)
+    (and-both (leb 1 n) (leb n 2047) (le→leb 1 n (s .some)) (le→leb n 2047 (s .few)))
+    (rw (s .even) (eqb-refl n))
+
+module _ (par tax : List ℕ) where
+  ordered-top : T (ordered par 0) → up par 0 ≡ none
+  unfolding ordered pick
+  ordered-top t = eqb→eq (up par 0) none t
+
+  ordered-order : (i : ℕ) → 0 < i → T (ordered par i) → up par i < i
+  unfolding ordered pick
+  ordered-order i h t = ltb→lt (up par i) i (rw (ne-eqb i 0 (omega arith)) at t)
+
+  is-ordered : up par 0 ≡ none → ((i : ℕ) → 0 < i → i < length par → up par i < i) → (i : ℕ) → i < length par → T (ordered par i)
+  unfolding ordered pick
+  is-ordered e f i h =
+      elim (ℕ-discrete i 0) [
+        | yes z ↦ rw (z, e) tt
+        | no z ↦ rw (ne-eqb i 0 z) (lt→ltb (up par i) i (f i (omega arith) h))
+      ]
+
+  paired-is : (i : ℕ) → T (paired par i) → Leaf par i ⊎ Inner par i
+  unfolding paired
+  paired-is i t =
+      let k = length (kids par i) in
+      elim (or-cases (eqb k 0) (eqb k 2) t) [ inl e ↦ inl (eqb→eq k 0 e) | inr e ↦ inr (eqb→eq k 2 e) ]
+
+  is-paired : (i : ℕ) → Leaf par i ⊎ Inner par i → T (paired par i)
+  unfolding paired
+  is-paired i (inl e) = rw e tt
+  is-paired i (inr e) = rw e tt
+
+  marked-leaf : (i : ℕ) → Leaf par i → T (marked par tax i) → taxon tax i ≢ 0
+  unfolding marked pick
+  marked-leaf i e t z = T-not (eqb (taxon tax i) 0) (rw (T-true {b = isLeaf par i} (is-leaf par i e)) at t) (rw z tt)
+
+  marked-inner : (i : ℕ) → Inner par i → T (marked par tax i) → taxon tax i ≡ 0
+  unfolding marked pick
+  marked-inner i e t = eqb→eq (taxon tax i) 0 (rw (not-leaf par i e) at t)
+
+  is-marked : (i : ℕ) → (Leaf par i × (taxon tax i ≢ 0)) ⊎ (Inner par i × (taxon tax i ≡ 0)) → T (marked par tax i)
+  unfolding marked pick
+  is-marked i (inl p) = rw (T-true {b = isLeaf par i} (is-leaf par i (p .0)), ne-eqb (taxon tax i) 0 (p .1)) tt
+  is-marked i (inr p) = rw (not-leaf par i (p .0), p .1) tt
+
+  -- rules 1 to 4 of one tree, whichever it is
+  tree-sound : (t : ℕ) → T (sized par tax) → Every Passes (shapeRules t par tax) → SoundTree par tax
+  unfolding shapeRules
+  tree-sound t s (and o (and k (and m done))) =
+      let z = sized-is par tax s in
+      record {
+        some = z .some;
+        few = z .few;
+        even = z .even;
+        top = ordered-top (o 0 (z .some));
+        order = λ i h l. ordered-order i h (o i l);
+        two = λ i l. paired-is i (k i l);
+        leaf-tax = λ i l e. marked-leaf i e (m i l);
+        inner-tax = λ i l e. marked-inner i e (m i l);
+      }
+
+  sound-size : SoundTree par tax → T (sized par tax)
+  sound-size S = is-sized par tax (record { some = S .some; few = S .few; even = S .even })
+
+  sound-shape : (t : ℕ) → SoundTree par tax → Every Passes (shapeRules t par tax)
+  unfolding shapeRules
+  sound-shape t S =
+      and {r = each 2 t (length par) (ordered par)} (is-ordered (S .top) (S .order))
+      (and {r = each 3 t (length par) (paired par)} (λ i l. is-paired i (S .two i l))
+      (and {r = each 4 t (length par) (marked par tax)} (λ i l. is-marked i (elim (S .two i l) [ inl e ↦ inl (e, S .leaf-tax i l e) | inr e ↦ inr (e, S .inner-tax i l e) ]))
+      done))
+
+-- ---- rule 5
+
+-- no leaf at a lower number has the taxon of i
+fresh-is : (sp st : List ℕ) (i j : ℕ) → j < i → Leaf sp i → Leaf sp j → T (fresh sp st i) → taxon st j ≢ taxon st i
+unfolding fresh
+fresh-is sp st i j h e f t q =
+    let p : ℕ → Bool = λ k. isLeaf sp k && eqb (taxon st k) (taxon st i) in
+    T-not (isLeaf sp i && any p (range 0 i)) t
+    (and-both (isLeaf sp i) (any p (range 0 i)) (is-leaf sp i e)
+    (any-has p j (range 0 i) (has-range 0 i j (omega arith) (omega arith)) (and-both (isLeaf sp j) (eqb (taxon st j) (taxon st i)) (is-leaf sp j f) (rw q (eqb-refl (taxon st i))))))
+
+is-fresh : (sp st : List ℕ) (i : ℕ) → (Leaf sp i → (j : ℕ) → j < i → Leaf sp j → taxon st j ≢ taxon st i) → T (fresh sp st i)
+unfolding fresh
+is-fresh sp st i f =
+    let p : ℕ → Bool = λ k. isLeaf sp k && eqb (taxon st k) (taxon st i) in
+    not-T (isLeaf sp i && any p (range 0 i))
+    (λ t. let k = has-any p (range 0 i) (and-right (isLeaf sp i) (any p (range 0 i)) t) in
+    let j = k .0 in
+    f (leaf-is sp i (and-left (isLeaf sp i) (any p (range 0 i)) t)) j (omega (arith, range-has 0 i j (k .1)))
+    (leaf-is sp j (and-left (isLeaf sp j) (eqb (taxon st j) (taxon st i)) (k .2))) (eqb→eq (taxon st j) (taxon st i) (and-right (isLeaf sp j) (eqb (taxon st j) (taxon st i)) (k .2))))
+
+fresh-distinct : (sp st : List ℕ) → ((i : ℕ) → i < length sp → T (fresh sp st i)) → Distinct sp st
+fresh-distinct sp st f i j a b e g q =
+    elim (ℕ-discrete i j) [
+      | yes z ↦ z
+      | no z ↦ elim (decLt i j) [ yes l ↦ absurd (fresh-is sp st j i l g e (f j b) q) | no l ↦ absurd (fresh-is sp st i j (omega arith) e g (f i a) (sym q)) ]
+    ]
+
+distinct-fresh : (sp st : List ℕ) → Distinct sp st → (i : ℕ) → i < length sp → T (fresh sp st i)
+distinct-fresh sp st D i a = is-fresh sp st i (λ e j l f q. absurd (omega (arith, D i j a (omega arith) e f (sym q))))
+
+-- ---- rule 6
+
+known-is : (w : Pair) → ((x : ℕ) → x < length (w .gp) → T (known w x)) → Known w
+unfolding known
+known-is w f x h e =
+    let p : ℕ → Bool = λ s. isLeaf (w .sp) s && eqb (taxon (w .st) s) (taxon (w .gt) x) in
+    let t : T (any p (nodes (w .sp))) =
+    elim (or-cases (not (isLeaf (w .gp) x)) (any p (nodes (w .sp))) (f x h)) [ inl n ↦ absurd (T-not (isLeaf (w .gp) x) n (is-leaf (w .gp) x e)) | inr r ↦ r ] in
+    let k = has-any p (nodes (w .sp)) t in
+    let s = k .0 in (
+      s,
+      node-has (w .sp) (k .1),
+      leaf-is (w .sp) s (and-left (isLeaf (w .sp) s) (eqb (taxon (w .st) s) (taxon (w .gt) x)) (k .2)),
+      eqb→eq (taxon (w .st) s) (taxon (w .gt) x) (and-right (isLeaf (w .sp) s) (eqb (taxon (w .st) s) (taxon (w .gt) x)) (k .2)),
+    )
+
+is-known : (w : Pair) → Known w → (x : ℕ) → x < length (w .gp) → T (known w x)
+unfolding known
+is-known w K x h =
+    let p : ℕ → Bool = λ s. isLeaf (w .sp) s && eqb (taxon (w .st) s) (taxon (w .gt) x) in
+    elim (test (isLeaf (w .gp) x)) [
+      | inl e ↦
+          let k = K x h (leaf-is (w .gp) x (true-T e)) in
+          let s = k .0 in
+          or-right (not (isLeaf (w .gp) x)) (any p (nodes (w .sp)))
+          (any-has p s (nodes (w .sp)) (has-node (w .sp) (k .1)) (and-both (isLeaf (w .sp) s) (eqb (taxon (w .st) s) (taxon (w .gt) x)) (is-leaf (w .sp) s (k .2)) (rw (k .3) (eqb-refl (taxon (w .gt) x)))))
+      | inr e ↦ or-left (not (isLeaf (w .gp) x)) (any p (nodes (w .sp))) (rw e tt)
+    ]
+
+-- ---- the theorems
+
+-- the species rules all pass exactly if the species tables are sound
+pub species-sound : (sp st : List ℕ) → Every Passes (speciesRules sp st) ↔ SoundSpecies sp st
+unfolding speciesRules
+species-sound sp st =
+    let last = each 5 1 (length sp) (fresh sp st) ∷ [] in (
+      (λ p. let q = every-tail p in
+          record { tree = tree-sound sp st 1 (every-head p) (every-left (shapeRules 1 sp st) last q); once = fresh-distinct sp st (every-head (every-right (shapeRules 1 sp st) last q)) }),
+      (λ S. and (sound-size sp st (S .tree)) (every-join (shapeRules 1 sp st) last (sound-shape sp st 1 (S .tree)) (and (distinct-fresh sp st (S .once)) done))),
+    )
+
+-- the gene rules but the first all pass exactly if the gene tables of a right size are sound on the species tables
+pub family-sound : (w : Pair) → T (sized (w .gp) (w .gt)) → Every Passes (familyRules w) ↔ (SoundTree (w .gp) (w .gt) × Known w)
+unfolding familyRules
+family-sound w s =
+    let shape = shapeRules 2 (w .gp) (w .gt) in
+    let last = each 6 2 (length (w .gp)) (known w) ∷ [] in (
+      (λ p. (tree-sound (w .gp) (w .gt) 2 s (every-left shape last p), known-is w (every-head (every-right shape last p)))),
+      (λ S. every-join shape last (sound-shape (w .gp) (w .gt) 2 (S .0)) (and (is-known w (S .1)) done)),
+    )
+
+-- all rules 1 to 6 pass exactly if both trees are sound
+pub pair-sound : (w : Pair) → Every Passes (pairRules w) ↔ Sound w
+unfolding pairRules geneRules
+pair-sound w =
+    let ss = speciesRules (w .sp) (w .st) in (
+      (λ p. let q = every-right ss (geneRules w) p in
+          let f = (family-sound w (every-head q)) .0 (every-tail q) in
+          record { species = (species-sound (w .sp) (w .st)) .0 (every-left ss (geneRules w) p); genes = f .0; known = f .1 }),
+      (λ S. let s = sound-size (w .gp) (w .gt) (S .genes) in
+          every-join ss (geneRules w) ((species-sound (w .sp) (w .st)) .1 (S .species)) (and s ((family-sound w s) .1 (S .genes, S .known)))),
+    )
+
+-- a judge's ruling is `accepted` exactly if the tables obey the written rules
+pub species-accepted : (sp st : List ℕ) → (verdict (speciesRules sp st) ≡ accepted fine) ↔ SoundSpecies sp st
+species-accepted sp st = (
+  (λ e. (species-sound sp st) .0 ((ruling-accepted (speciesRules sp st) fine fine e) .0)),
+  (λ S. ruling-passes (speciesRules sp st) fine ((species-sound sp st) .1 S)),
+)
+
+pub pair-accepted : (w : Pair) → (verdict (pairRules w) ≡ accepted fine) ↔ Sound w
+pair-accepted w = (
+  (λ e. (pair-sound w) .0 ((ruling-accepted (pairRules w) fine fine e) .0)),
+  (λ S. ruling-passes (pairRules w) fine ((pair-sound w) .1 S)),
+)
