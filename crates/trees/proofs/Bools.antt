@@ -48,3 +48,10 @@ T-true {b} t = go b t
 
 pub true-T : {b : Bool} → b ≡ true → T b
 true-T e = rw e tt
+
+-- two tests that pass together are one
+pub T-same : (a b : Bool) → (T a → T b) → (T b → T a) → a ≡ b
+T-same true true f g = refl
+T-same true false f g = absurd (f tt)
+T-same false true f g = absurd (g tt)
+T-same false false f g = refl

@@ -23,12 +23,12 @@ use Rattle.trees.proofs.Rulings.{ruling-accepted, ruling-passes, every-
 
 -- ---- one tree
 
-record Sized (par tax : List ℕ) : Type 0 where
-  some : 1 ≤ length par
-  few : length par ≤ 2047
-  even : length tax ≡ length par
+pub record Sized (par tax : List ℕ) : Type 0 where
+  pub some : 1 ≤ length par
+  pub few : length par ≤ 2047
+  pub even : length tax ≡ length par
 
-sized-is : (par tax : List ℕ) → T (sized par tax) → Sized par tax
+pub sized-is : (par tax : List ℕ) → T (sized par tax) → Sized par tax
 unfolding sized
 sized-is par tax t =
     let n = length par in
@@ -38,7 +38,7 @@ sized-is par tax t =
     let l = and-left (a && b) c t in
     record { some = leb→le 1 n (and-left a b l); few = leb→le n 2047 (and-right a b l); even = eqb→eq (length tax) n (and-right (a && b) c t) }
 
-is-sized : (par tax : List ℕ) → Sized par tax → T (sized par tax)
+pub is-sized : (par tax : List ℕ) → Sized par tax → T (sized par tax)
 unfolding sized
 is-sized par tax s =
     let n = length par in
@@ -46,16 +46,16 @@ is-sized par tax s =
     (and-both (leb 1 n) (leb n 2047) (le→leb 1 n (s .some)) (le→leb n 2047 (s .few)))
     (rw (s .even) (eqb-refl n))
 
-module _ (par tax : List ℕ) where
-  ordered-top : T (ordered par 0) → up par 0 ≡ none
+module _ (par : List ℕ) where
+  pub ordered-top : T (ordered par 0) → up par 0 ≡ none
   unfolding ordered pick
   ordered-top t = eqb→eq (up par 0) none t
 
-  ordered-order : (i : ℕ) → 0 < i → T (ordered par i) → up par i < i
+  pub ordered-order : (i : ℕ) → 0 < i → T (ordered par i) → up par i < i
   unfolding ordered pick
   ordered-order i h t = ltb→lt (up par i) i (rw (ne-eqb i 0 (omega arith)) at t)
 
-  is-ordered : up par 0 ≡ none → ((i : ℕ) → 0 < i → i < length par → up par i < i) → (i : ℕ) → i < length par → T (ordered par i)
+  pub is-ordered : up par 0 ≡ none → ((i : ℕ) → 0 < i → i < length par → up par i < i) → (i : ℕ) → i < length par → T (ordered par i)
   unfolding ordered pick
   is-ordered e f i h =
       elim (ℕ-discrete i 0) [
@@ -63,32 +63,33 @@ module _ (par tax : List ℕ) where
         | no z ↦ rw (ne-eqb i 0 z) (lt→ltb (up par i) i (f i (omega arith) h))
       ]
 
-  paired-is : (i : ℕ) → T (paired par i) → Leaf par i ⊎ Inner par i
+  pub paired-is : (i : ℕ) → T (paired par i) → Leaf par i ⊎ Inner par i
   unfolding paired
   paired-is i t =
       let k = length (kids par i) in
       elim (or-cases (eqb k 0) (eqb k 2) t) [ inl e ↦ inl (eqb→eq k 0 e) | inr e ↦ inr (eqb→eq k 2 e) ]
 
-  is-paired : (i : ℕ) → Leaf par i ⊎ Inner par i → T (paired par i)
+  pub is-paired : (i : ℕ) → Leaf par i ⊎ Inner par i → T (paired par i)
   unfolding paired
   is-paired i (inl e) = rw e tt
   is-paired i (inr e) = rw e tt
 
-  marked-leaf : (i : ℕ) → Leaf par i → T (marked par tax i) → taxon tax i ≢ 0
+module _ (par tax : List ℕ) where
+  pub marked-leaf : (i : ℕ) → Leaf par i → T (marked par tax i) → taxon tax i ≢ 0
   unfolding marked pick
   marked-leaf i e t z = T-not (eqb (taxon tax i) 0) (rw (T-true {b = isLeaf par i} (is-leaf par i e)) at t) (rw z tt)
 
-  marked-inner : (i : ℕ) → Inner par i → T (marked par tax i) → taxon tax i ≡ 0
+  pub marked-inner : (i : ℕ) → Inner par i → T (marked par tax i) → taxon tax i ≡ 0
   unfolding marked pick
   marked-inner i e t = eqb→eq (taxon tax i) 0 (rw (not-leaf par i e) at t)
 
-  is-marked : (i : ℕ) → (Leaf par i × (taxon tax i ≢ 0)) ⊎ (Inner par i × (taxon tax i ≡ 0)) → T (marked par tax i)
+  pub is-marked : (i : ℕ) → (Leaf par i × (taxon tax i ≢ 0)) ⊎ (Inner par i × (taxon tax i ≡ 0)) → T (marked par tax i)
   unfolding marked pick
   is-marked i (inl p) = rw (T-true {b = isLeaf par i} (is-leaf par i (p .0)), ne-eqb (taxon tax i) 0 (p .1)) tt
   is-marked i (inr p) = rw (not-leaf par i (p .0), p .1) tt
 
   -- rules 1 to 4 of one tree, whichever it is
-  tree-sound : (t : ℕ) → T (sized par tax) → Every Passes (shapeRules t par tax) → SoundTree par tax
+  pub tree-sound : (t : ℕ) → T (sized par tax) → Every Passes (shapeRules t par tax) → SoundTree par tax
   unfolding shapeRules
   tree-sound t s (and o (and k (and m done))) =
       let z = sized-is par tax s in
@@ -96,28 +97,28 @@ module _ (par tax : List ℕ) where
         some = z .some;
         few = z .few;
         even = z .even;
-        top = ordered-top (o 0 (z .some));
-        order = λ i h l. ordered-order i h (o i l);
-        two = λ i l. paired-is i (k i l);
+        top = ordered-top par (o 0 (z .some));
+        order = λ i h l. ordered-order par i h (o i l);
+        two = λ i l. paired-is par i (k i l);
         leaf-tax = λ i l e. marked-leaf i e (m i l);
         inner-tax = λ i l e. marked-inner i e (m i l);
       }
 
-  sound-size : SoundTree par tax → T (sized par tax)
+  pub sound-size : SoundTree par tax → T (sized par tax)
   sound-size S = is-sized par tax (record { some = S .some; few = S .few; even = S .even })
 
-  sound-shape : (t : ℕ) → SoundTree par tax → Every Passes (shapeRules t par tax)
+  pub sound-shape : (t : ℕ) → SoundTree par tax → Every Passes (shapeRules t par tax)
   unfolding shapeRules
   sound-shape t S =
-      and {r = each 2 t (length par) (ordered par)} (is-ordered (S .top) (S .order))
-      (and {r = each 3 t (length par) (paired par)} (λ i l. is-paired i (S .two i l))
+      and {r = each 2 t (length par) (ordered par)} (is-ordered par (S .top) (S .order))
+      (and {r = each 3 t (length par) (paired par)} (λ i l. is-paired par i (S .two i l))
       (and {r = each 4 t (length par) (marked par tax)} (λ i l. is-marked i (elim (S .two i l) [ inl e ↦ inl (e, S .leaf-tax i l e) | inr e ↦ inr (e, S .inner-tax i l e) ]))
       done))
 
 -- ---- rule 5
 
 -- no leaf at a lower number has the taxon of i
-fresh-is : (sp st : List ℕ) (i j : ℕ) → j < i → Leaf sp i → Leaf sp j → T (fresh sp st i) → taxon st j ≢ taxon st i
+pub fresh-is : (sp st : List ℕ) (i j : ℕ) → j < i → Leaf sp i → Leaf sp j → T (fresh sp st i) → taxon st j ≢ taxon st i
 unfolding fresh
 fresh-is sp st i j h e f t q =
     let p : ℕ → Bool = λ k. isLeaf sp k && eqb (taxon st k) (taxon st i) in
@@ -125,7 +126,7 @@ fresh-is sp st i j h e f t q =
     (and-both (isLeaf sp i) (any p (range 0 i)) (is-leaf sp i e)
     (any-has p j (range 0 i) (has-range 0 i j (omega arith) (omega arith)) (and-both (isLeaf sp j) (eqb (taxon st j) (taxon st i)) (is-leaf sp j f) (rw q (eqb-refl (taxon st i))))))
 
-is-fresh : (sp st : List ℕ) (i : ℕ) → (Leaf sp i → (j : ℕ) → j < i → Leaf sp j → taxon st j ≢ taxon st i) → T (fresh sp st i)
+pub is-fresh : (sp st : List ℕ) (i : ℕ) → (Leaf sp i → (j : ℕ) → j < i → Leaf sp j → taxon st j ≢ taxon st i) → T (fresh sp st i)
 unfolding fresh
 is-fresh sp st i f =
     let p : ℕ → Bool = λ k. isLeaf sp k && eqb (taxon st k) (taxon st i) in
@@ -147,12 +148,16 @@ distinct-fresh sp st D i a = is-fresh sp st i (λ e j l f q. absurd (omega (arit
 
 -- ---- rule 6
 
-known-is : (w : Pair) → ((x : ℕ) → x < length (w .gp) → T (known w x)) → Known w
+-- some species leaf has the taxon of x
+abbrev pub Carried : Pair → ℕ → Type 0
+Carried w x = (s : ℕ) × (s < length (w .sp)) × Leaf (w .sp) s × (taxon (w .st) s ≡ taxon (w .gt) x)
+
+pub known-is : (w : Pair) (x : ℕ) → T (known w x) → Leaf (w .gp) x → Carried w x
 unfolding known
-known-is w f x h e =
+known-is w x f e =
     let p : ℕ → Bool = λ s. isLeaf (w .sp) s && eqb (taxon (w .st) s) (taxon (w .gt) x) in
     let t : T (any p (nodes (w .sp))) =
-    elim (or-cases (not (isLeaf (w .gp) x)) (any p (nodes (w .sp))) (f x h)) [ inl n ↦ absurd (T-not (isLeaf (w .gp) x) n (is-leaf (w .gp) x e)) | inr r ↦ r ] in
+    elim (or-cases (not (isLeaf (w .gp) x)) (any p (nodes (w .sp))) f) [ inl n ↦ absurd (T-not (isLeaf (w .gp) x) n (is-leaf (w .gp) x e)) | inr r ↦ r ] in
     let k = has-any p (nodes (w .sp)) t in
     let s = k .0 in (
       s,
@@ -161,13 +166,13 @@ known-is w f x h e =
       eqb→eq (taxon (w .st) s) (taxon (w .gt) x) (and-right (isLeaf (w .sp) s) (eqb (taxon (w .st) s) (taxon (w .gt) x)) (k .2)),
     )
 
-is-known : (w : Pair) → Known w → (x : ℕ) → x < length (w .gp) → T (known w x)
+pub is-known : (w : Pair) (x : ℕ) → (Leaf (w .gp) x → Carried w x) → T (known w x)
 unfolding known
-is-known w K x h =
+is-known w x K =
     let p : ℕ → Bool = λ s. isLeaf (w .sp) s && eqb (taxon (w .st) s) (taxon (w .gt) x) in
     elim (test (isLeaf (w .gp) x)) [
       | inl e ↦
-          let k = K x h (leaf-is (w .gp) x (true-T e)) in
+          let k = K (leaf-is (w .gp) x (true-T e)) in
           let s = k .0 in
           or-right (not (isLeaf (w .gp) x)) (any p (nodes (w .sp)))
           (any-has p s (nodes (w .sp)) (has-node (w .sp) (k .1)) (and-both (isLeaf (w .sp) s) (eqb (taxon (w .st) s) (taxon (w .gt) x)) (is-leaf (w .sp) s (k .2)) (rw (k .3) (eqb-refl (taxon (w .gt) x)))))
@@ -192,8 +197,8 @@ unfolding familyRules
 family-sound w s =
     let shape = shapeRules 2 (w .gp) (w .gt) in
     let last = each 6 2 (length (w .gp)) (known w) ∷ [] in (
-      (λ p. (tree-sound (w .gp) (w .gt) 2 s (every-left shape last p), known-is w (every-head (every-right shape last p)))),
-      (λ S. every-join shape last (sound-shape (w .gp) (w .gt) 2 (S .0)) (and (is-known w (S .1)) done)),
+      (λ p. (tree-sound (w .gp) (w .gt) 2 s (every-left shape last p), λ x h e. known-is w x (every-head (every-right shape last p) x h) e)),
+      (λ S. every-join shape last (sound-shape (w .gp) (w .gt) 2 (S .0)) (and {r = each 6 2 (length (w .gp)) (known w)} (λ x h. is-known w x (S .1 x h)) done)),
     )
 
 -- all rules 1 to 6 pass exactly if both trees are sound

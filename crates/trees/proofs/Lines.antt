@@ -11,8 +11,14 @@ use lib.ListN.{length, getD}
 use lib.Dec.{T, eqb, ltb, eqb→eq, eqb-refl}
 use borrow.Author.Tests.{lt-ltb, le-ltb, ltb-true, ltb-false}
 use Rattle.trees.specs.Lists.{has, total, one}
+use Rattle.trees.proofs.Lists.{getD-any}
 use Rattle.trees.proofs.Bools.{or-left, or-right, or-cases, one-T}
 use Rattle.trees.specs.Trees.{none, up, climb, line, Below, here, step, depth}
+
+-- a parent as the code reads it
+pub up-at : (par : List ℕ) (i : ℕ) → i < length par → up par i ≡ getD par i 0
+unfolding up
+up-at par i h = getD-any par i none 0 h
 
 module _ {par : List ℕ} where
   pub top-node : {a x : ℕ} → Below par a x → a < length par

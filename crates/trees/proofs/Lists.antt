@@ -1,13 +1,14 @@
 -- Members, filters, sums and searches of lists of numbers. Assumes nothing.
 use Prim.Native.Nat.{ℕ, zero, suc, _+_, _≤_, _<_}
 use native.Mathlib.Omega.{arith}
-use native.Mathlib.Nat.{add-zero}
+use native.Mathlib.Nat.{add-zero, zero-add}
+use native.Mathlib.Numerals.{add-one}
 use native.Mathlib.Decide.{decLt, ℕ-discrete}
 use mathlib.Core.Path.{_≡_, refl, sym, ap, ap₂, _∙_, subst}
 use mathlib.Core.Logic.{_⊎_, inl, inr, _≢_}
 use mathlib.Core.Bool.{Bool, true, false, _||_, not}
 use mathlib.Core.List.{List, [], _∷_, _++_, nil≢cons, head-eq-of-cons-eq, tail-eq-of-cons-eq}
-use lib.ListN.{length, getD}
+use lib.ListN.{length, getD, length-append}
 use lib.Dec.{T, eqb, ltb, eqb→eq, eqb-refl}
 use borrow.Author.Tests.{lt-ltb, le-ltb, eq-eqb, ne-eqb, not-true, not-false}
 use Rattle.trees.specs.Lists.{range, consIf, keepIf, has, all, any, choose, first, total, one, lowest}
@@ -253,9 +254,43 @@ lowest-cases ok n =
       | inr r ↦ inr (r .0, λ j b. true-T (not-false (ok j) (r .1 j (omega arith) (omega arith))))
     ]
 
+-- two tests that agree below n have one lowest
+pub lowest-same : (ok ok′ : ℕ → Bool) (n : ℕ) → ((i : ℕ) → i < n → ok i ≡ ok′ i) → lowest ok n ≡ lowest ok′ n
+lowest-same ok ok′ n f =
+    elim (lowest-cases ok n) [
+      | inl r ↦ sym (lowest-is ok′ n (lowest ok n) (r .0) (sym (f (lowest ok n) (r .0)) ∙ r .1) (λ j h. rw (f j (omega (arith, r .0))) at (r .2 j h)))
+      | inr r ↦ r .0 ∙ sym (lowest-none ok′ n (λ j h. rw (f j h) at (r .1 j h)))
+    ]
+
 -- ---- one more number at the end of a range
 
 pub range-more : (i k : ℕ) → range i (suc k) ≡ range i k ++ (i + k) ∷ []
 unfolding range
 range-more i zero = rw (add-zero i)
 range-more i (suc k) = ap (λ l. i ∷ l) (range-more (suc i) k ∙ ap (λ m. range (suc i) k ++ m ∷ []) (omega arith))
+
+keep-append : (p : ℕ → Bool) (l m : List ℕ) → keepIf p (l ++ m) ≡ keepIf p l ++ keepIf p m
+unfolding keepIf consIf
+keep-append p [] m = refl
+keep-append p (x ∷ l) m = ap (λ k. consIf (p x) x k) (keep-append p l m) ∙ cons-append (p x) x (keepIf p l) (keepIf p m)
+  where
+    cons-append : (b : Bool) (x : ℕ) (l m : List ℕ) → consIf b x (l ++ m) ≡ consIf b x l ++ m
+    cons-append true x l m = refl
+    cons-append false x l m = refl
+
+length-consIf : (b : Bool) (x : ℕ) → length (consIf b x []) ≡ one b
+unfolding consIf one
+length-consIf true x = refl
+length-consIf false x = refl
+
+-- how many of the first numbers pass a test: one number more
+pub keep-more : (p : ℕ → Bool) (i : ℕ) → length (keepIf p (range 0 (i + 1))) ≡ length (keepIf p (range 0 i)) + one (p i)
+unfolding keepIf
+keep-more p i =
+    rw (add-one i, range-more 0 i, keep-append p (range 0 i) ((0 + i) ∷ []), length-append (keepIf p (range 0 i)) (consIf (p (0 + i)) (0 + i) []), length-consIf (p (0 + i)) (0 + i), zero-add i)
+
+-- an entry read with another default
+pub getD-any : (l : List ℕ) (i d e : ℕ) → i < length l → getD l i d ≡ getD l i e
+getD-any [] i d e h = absurd (omega arith)
+getD-any (x ∷ l) zero d e h = refl
+getD-any (x ∷ l) (suc i) d e h = getD-any l i d e (omega arith)

@@ -1,5 +1,5 @@
 -- What a ruling says: accepted exactly if every rule passes; refused by the first that fails, at its lowest node. Assumes nothing.
-use Prim.Native.Nat.{ℕ, _<_}
+use Prim.Native.Nat.{ℕ, _≤_, _<_}
 use native.Mathlib.Omega.{arith}
 use mathlib.Core.Path.{_≡_, refl, sym, ap, _∙_}
 use mathlib.Core.Logic.{_⊎_, inl, inr, _≢_}
@@ -8,7 +8,8 @@ use mathlib.Core.List.{List, [], _∷_, _++_}
 use lib.Dec.{T, eqb}
 use borrow.Author.Tests.{eq-eqb, ne-eqb}
 use Rattle.trees.specs.Lists.{lowest}
-use Rattle.trees.specs.Rulings.{Ruling, accepted, refused, Rule, whole, each, pick, ruling, numberOf, treeOf, Passes, Fails, Every, done, and}
+use Rattle.trees.specs.Rulings.{Ruling, accepted, refused, refusedBy, Rule, whole, each, pick, ruling, numberOf, treeOf, Passes, Fails, Every, done, and}
+use Rattle.trees.specs.declared.Refusal.{Refusal}
 use Rattle.trees.proofs.Bools.{test, T-true, true-T}
 use Rattle.trees.proofs.Lists.{lowest-is, lowest-none, lowest-cases}
 
@@ -46,6 +47,13 @@ again {n = n} {m = m} {t = t} {u = u} {v = v} {w = w} q b =
 
 f-is : {A : Type 0} (n m t u v w : ℕ) (a : A) → _≡_ {A = Ruling A} (refused n t v) (refused m u w) → v ≡ w
 f-is n m t u v w a q = cc
+
+-- a search that found a node, and one that found none
+pub each-fails : (n t k : ℕ) (ok : ℕ → Bool) (v : ℕ) → v ≡ lowest ok k → v < k → Fails (each n t k ok) v
+each-fails n t k ok v e l = elim (lowest-cases ok k) [ inl r ↦ rw e r | inr r ↦ absurd (omega (arith, r .0)) ]
+
+pub each-passes : (n t k : ℕ) (ok : ℕ → Bool) (v : ℕ) → v ≡ lowest ok k → k ≤ v → Passes (each n t k ok)
+each-passes n t k ok v e l = elim (lowest-cases ok k) [ inl r ↦ absurd (omega (arith, r .0)) | inr r ↦ r .1 ]
 
 pub ruling-pass : {A : Type 0} (r : Rule) (rs : List Rule) (a : A) → Passes r → ruling (r ∷ rs) a ≡ ruling rs a
 unfolding ruling pick
@@ -113,3 +121,12 @@ ruling-refused (r ∷ rs) a n t v e =
           let q = sym (ruling-fail r rs a (f .0) (f .1)) ∙ e in
           record { before = []; rule = r; after = rs; order = refl; number = cc; tree = cc; passed = done; fails = rw (f-is (numberOf r) n (treeOf r) t (f .0) v a q) at (f .1) }
     ]
+
+-- a refusal handed back is fixed by its number, tree and place
+pub refusal-one : {A : Type 0} (r s : Refusal) → _≡_ {A = Ruling A} (refusedBy r) (refusedBy s) → r ≡ s
+refusal-one r s e =
+    let make : ℕ → ℕ → ℕ → Refusal = (λ n t v. record { number = n; tree = t; place = v }) in
+    let x : r .number ≡ s .number = cc in
+    let y : r .tree ≡ s .tree = cc in
+    let z : r .place ≡ s .place = cc in
+    ap (λ n. make n (r .tree) (r .place)) x ∙ ap (λ t. make (s .number) t (r .place)) y ∙ ap (λ v. make (s .number) (s .tree) v) z

@@ -1,6 +1,7 @@
 -- What a call answers, and the order in which it refuses.
 --   Ruling A            == accepted with a value of A, or refused with number, tree and place
 --                                                   (01, "A refusal gives the number, the tree (0 none, 1 species, 2 gene) and a place")
+--   refusedBy r         == the refusal that a call hands back, in the paper's terms
 --   whole n t v b       == the rule of number n that is one test b; refused at tree t, place v
 --   each n t k ok       == the rule of number n that is a test ok of each of k nodes (or blocks); refused at the lowest that fails
 --   ruling rs a         == refused by the first rule of rs that fails, else accepted with a
@@ -14,10 +15,14 @@ use mathlib.Core.Bool.{Bool, true, false}
 use mathlib.Core.List.{List, [], _∷_}
 use lib.Dec.{eqb, T}
 use Rattle.trees.specs.Lists.{lowest}
+use Rattle.trees.specs.declared.Refusal.{Refusal}
 
 pub data Ruling (A : Type 0) : Type 0 where
   accepted : A → Ruling A
   refused : ℕ → ℕ → ℕ → Ruling A
+
+abbrev pub refusedBy : {A : Type 0} → Refusal → Ruling A
+refusedBy r = refused (r .number) (r .tree) (r .place)
 
 pub data Rule : Type 0 where
   whole : ℕ → ℕ → ℕ → Bool → Rule

@@ -1,0 +1,14 @@
+pub mod Leaves
+pub mod Places
+pub mod Labels
+pub mod Legal
+pub mod Sides
+pub mod Counts
+pub mod Bounds
+pub mod Beyond
+pub mod Demand
+pub mod Dating
+pub mod Every
+pub mod Judged
+pub mod Tables
+pub mod Accepted
