@@ -1,5 +1,4 @@
--- What each call accepts, and that it accepts the tables of the least history. Each law is handed J: the rules of the trees pass exactly
--- for sound tables.
+-- What each call accepts, and that it accepts the tables of the least history. Assumes nothing.
 use Prim.Native.Nat.{ℕ, _≤_, _<_}
 use native.Mathlib.Omega.{arith}
 use mathlib.Core.Path.{_≡_}
@@ -18,7 +17,8 @@ use Rattle.histories.specs.Legal.{Legal}
 use Rattle.histories.specs.Rules.{roomy, descentRules, leastRules, offerRules, datingRules, Counts, OfferCounts, leastCounts, offerCounts, leastRuling, offerRuling, datingRuling}
 use Rattle.histories.proofs.Legal.{least-legal, legal-agree}
 use Rattle.histories.proofs.Counts.{losses-agree, duplications-agree, speciations-agree}
-use Rattle.histories.proofs.Every.{every-head, every-tail, every-join, every-left, every-right, ruling-is}
+use Rattle.trees.proofs.Rulings.{every-head, every-tail, every-join, every-left, every-right, ruling-is}
+use Rattle.trees.proofs.Judged.{pair-sound}
 use Rattle.histories.proofs.Judged.{descent-legal}
 use Rattle.histories.proofs.Tables.{length-places, length-labels, told-least}
 
@@ -51,13 +51,13 @@ pub record Asked (w : Pair) (v : ℕ) (d : Dated) : Type 0 where
   pub node : v < length (w .gp)
   pub value : dated w v ≡ d
 
-module _ {w : Pair} (J : Every Passes (pairRules w) ↔ Sound w) where
+module _ (w : Pair) where
   -- the rules of the trees, then a call's own
   call-accepted : {A : Type 0} (rs : List Rule) (a b : A) → (ruling (pairRules w ++ rs) a ≡ accepted b) ↔ (Sound w × Every Passes rs × (a ≡ b))
   call-accepted rs a b =
       let k = ruling-is (pairRules w ++ rs) a b in (
-        (λ e. let p = k .0 e in (J .0 (every-left (pairRules w) rs (p .0)), every-right (pairRules w) rs (p .0), p .1)),
-        (λ p. k .1 (every-join (pairRules w) rs (J .1 (p .0)) (p .1), p .2)),
+        (λ e. let p = k .0 e in ((pair-sound w) .0 (every-left (pairRules w) rs (p .0)), every-right (pairRules w) rs (p .0), p .1)),
+        (λ p. k .1 (every-join (pairRules w) rs ((pair-sound w) .1 (p .0)) (p .1), p .2)),
       )
 
   pub history-accepted : (places labels : List ℕ) (dw lw : ℕ) (v : Counts) → (leastRuling w places labels dw lw ≡ accepted v) ↔ Answered w places labels dw lw v

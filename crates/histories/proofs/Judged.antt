@@ -17,7 +17,7 @@ use Rattle.histories.specs.Histories.{History}
 use Rattle.histories.specs.Legal.{Legal, Apart}
 use Rattle.histories.specs.Rules.{placed, rightKind, fitting, homed, nested, apart, parted, descentRules}
 use Rattle.histories.proofs.Leaves.{T-below, below-T}
-use Rattle.histories.proofs.Every.{every-head, every-tail}
+use Rattle.trees.proofs.Rulings.{every-head, every-tail}
 
 -- if a then b, as a test
 if-then : (a b : Bool) → T (not a || b) ↔ (T a → T b)

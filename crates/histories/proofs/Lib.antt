@@ -8,7 +8,6 @@ pub mod Bounds
 pub mod Beyond
 pub mod Demand
 pub mod Dating
-pub mod Every
 pub mod Judged
 pub mod Tables
 pub mod Accepted

@@ -2,7 +2,7 @@
 use Prim.Native.Nat.{ℕ, _≤_, _<_}
 use native.Mathlib.Omega.{arith}
 use mathlib.Core.Path.{_≡_, refl, sym, ap, _∙_}
-use mathlib.Core.Logic.{_⊎_, inl, inr, _≢_}
+use mathlib.Core.Logic.{_⊎_, inl, inr, _≢_, _↔_}
 use mathlib.Core.Bool.{Bool, true, false}
 use mathlib.Core.List.{List, [], _∷_, _++_}
 use lib.Dec.{T, eqb}
@@ -97,6 +97,10 @@ pub ruling-passes : {A : Type 0} (rs : List Rule) (a : A) → Every Passes rs �
 unfolding ruling
 ruling-passes [] a done = refl
 ruling-passes (r ∷ rs) a (and p ps) = ruling-pass r rs a p ∙ ruling-passes rs a ps
+
+-- accepted exactly if every rule passes and the value is that one
+pub ruling-is : {A : Type 0} (rs : List Rule) (a b : A) → (ruling rs a ≡ accepted b) ↔ (Every Passes rs × (a ≡ b))
+ruling-is rs a b = (ruling-accepted rs a b, λ p. ruling-passes rs a (p .0) ∙ ap accepted (p .1))
 
 -- refused: some rule fails at that place, has that number and tree, and every rule before it passes
 pub record Broken (rs : List Rule) (n t v : ℕ) : Type 0 where
