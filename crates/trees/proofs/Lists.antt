@@ -294,3 +294,18 @@ pub getD-any : (l : List ℕ) (i d e : ℕ) → i < length l → getD l i d ≡ 
 getD-any [] i d e h = absurd (omega arith)
 getD-any (x ∷ l) zero d e h = refl
 getD-any (x ∷ l) (suc i) d e h = getD-any l i d e (omega arith)
+
+total-append : (f : ℕ → ℕ) (l m : List ℕ) → total f (l ++ m) ≡ total f l + total f m
+unfolding total
+total-append f [] m = omega arith
+total-append f (x ∷ l) m = omega (arith, total-append f l m)
+
+-- a sum over the first numbers: one number more
+pub total-more : (f : ℕ → ℕ) (i : ℕ) → total f (range 0 (i + 1)) ≡ total f (range 0 i) + f i
+unfolding total
+total-more f i = rw (add-one i, range-more 0 i, total-append f (range 0 i) ((0 + i) ∷ []), zero-add i) (omega arith)
+
+-- a part of it is at most the whole
+pub total-part : (f : ℕ → ℕ) (i k : ℕ) → total f (range 0 i) ≤ total f (range 0 (i + k))
+total-part f i zero = rw (add-zero i) (omega arith)
+total-part f i (suc k) = let e : i + suc k ≡ (i + k) + 1 = omega arith in rw (e, total-more f (i + k)) (omega (arith, total-part f i k))

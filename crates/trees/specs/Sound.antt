@@ -1,5 +1,6 @@
 -- What 01 asks of the tables, in the words of "The trees and how they are handed in".
 --   SoundTree par tax <-> the two tables are a tree
+--   Treelike par      <-> par is the parents table of a tree
 --   Distinct sp st    <-> no taxon stands twice among the species leaves
 --   Known w           <-> each gene leaf's taxon is the taxon of a species leaf
 --   Sound w           <-> all of it, for both trees
@@ -25,6 +26,9 @@ pub record SoundTree (par tax : List ℕ) : Type 0 where
   pub two : (i : ℕ) → i < length par → Leaf par i ⊎ Inner par i
   pub leaf-tax : (i : ℕ) → i < length par → Leaf par i → taxon tax i ≢ 0
   pub inner-tax : (i : ℕ) → i < length par → Inner par i → taxon tax i ≡ 0
+
+abbrev pub Treelike : List ℕ → Type 0
+Treelike par = (tax : List ℕ) × SoundTree par tax
 
 -- "In the species tree no taxon stands twice."
 abbrev pub Distinct : List ℕ → List ℕ → Type 0
