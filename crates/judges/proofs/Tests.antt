@@ -53,7 +53,7 @@ taxon-cases tax t =
     ]
 
 -- a node with a taxon is a leaf
-tax-leaf : {par tax : List ℕ} → SoundTree par tax → (i : ℕ) → i < length par → taxon tax i ≢ 0 → Leaf par i
+pub tax-leaf : {par tax : List ℕ} → SoundTree par tax → (i : ℕ) → i < length par → taxon tax i ≢ 0 → Leaf par i
 tax-leaf S i h n = elim (S .two i h) [ inl e ↦ e | inr e ↦ absurd (n (S .inner-tax i h e)) ]
 
 module _ {sp st : List ℕ} (S : SoundTree sp st) where

@@ -16,6 +16,7 @@ ghost use Rattle.judges.specs.Answers.{judgedOf};
 ghost use Rattle.judges.specs.Searches.{pairedCount, markedCount, taxonAt, freshTaxon, knownTaxon};
 ghost use Rattle.judges.specs.Counts.{capped, Counted, Shaped};
 use trees::Refusal;
+use trees::SpeciesNode;
 
 pub enum Judged {
     Sound,
@@ -131,7 +132,7 @@ fn first_unmarked(counts: &[u8], taxa: &[u32]) -> usize
 }
 
 // The lowest node that carries the taxon, or the number of nodes.
-pub fn taxon_at(taxa: &[u32], taxon: u32) -> usize
+fn taxon_at(taxa: &[u32], taxon: u32) -> usize
     ensures { λ r. ⌜ r ≡ taxonAt (now (taxa .entry)) taxon ⌝ }
 {
     let n = taxa.len();
@@ -143,6 +144,13 @@ pub fn taxon_at(taxa: &[u32], taxon: u32) -> usize
         i += 1;
     }
     n
+}
+
+// The species leaf of a taxon: the lowest species node that carries it, or the number of nodes.
+pub fn species_of(species_taxa: &[u32], taxon: u32) -> SpeciesNode
+    ensures { λ r. ⌜ r .0 ≡ taxonAt (now («species_taxa» .entry)) taxon ⌝ }
+{
+    SpeciesNode(taxon_at(species_taxa, taxon))
 }
 
 // Rule 5 at one node of a species tree that rule 4 has passed.

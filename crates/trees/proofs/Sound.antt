@@ -33,6 +33,11 @@ rooted {par} S =
       others = λ c h e. omega (arith, S .order c (omega arith) h);
     }
 
+-- in the base the rank is the number
+pub rank-is : {par tax : List ℕ} (S : SoundTree par tax) (x : ℕ) → rooted S .ground .rank x ≡ x
+unfolding rooted
+rank-is S x = refl
+
 -- what two sound tables give, whatever the numbering
 pub record Trees (w : Pair) : Type 0 where
   pub s : Rooted (w .sp)
