@@ -17,9 +17,9 @@ use Rattle.trees.specs.Sound.{Sound}
 use Rattle.trees.proofs.Lists.{only, total-cong, total-more, total-part, range-has}
 use Rattle.trees.proofs.Lines.{up-at, depth-le}
 use Rattle.trees.proofs.Sound.{trees}
-use Rattle.histories.specs.Histories.{History, told, everyNode, depthIn, duplications, speciations, losses, lossesIn, climbs}
+use Rattle.histories.specs.Histories.{History, told, Agree, everyNode, depthIn, duplications, speciations, losses, lossesIn, climbs}
 use Rattle.histories.specs.Legal.{Legal}
-use Rattle.histories.proofs.Counts.{climbs-below, climbs-losses}
+use Rattle.histories.proofs.Counts.{climbs-below, climbs-losses, losses-agree, climbs-agree, duplications-agree, speciations-agree}
 use Rattle.histories.proofs.Bounds.{climbs-few}
 use Rattle.counts.specs.Tallies.{Deep, stepsOf, Step, kindsTo, stepsTo, Counted, tallied, Countable, historyTally, Story}
 
@@ -93,3 +93,8 @@ module _ {w : Pair} {depths places labels : List ℕ} (Y : Story w places labels
       let l : stepsTo depths (w .gp) places (length (w .gp)) - 2 * kindsTo labels 1 (length (w .gp)) ≡ lossesIn w h =
       rw (steps-climbs, kinds-speciations) (omega (arith, climbs-losses (Y .sound) (Y .legal))) in
       rw (l, steps-climbs)
+
+-- histories that agree at every gene node count alike
+pub tally-agree : (w : Pair) {h k : History} → Agree w h k → historyTally w h ≡ historyTally w k
+unfolding historyTally
+tally-agree w A = rw (duplications-agree w A, losses-agree w A (depthIn w), speciations-agree w A, climbs-agree w A (depthIn w))

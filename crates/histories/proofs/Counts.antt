@@ -68,6 +68,13 @@ module _ (w : Pair) {h k : History} (A : Agree w h k) where
       (λ g t. total-cong (edge d h g) (edge d k g) (kids (w .gp) g)
       (λ c s. let a = A g (node-has (w .gp) t) in let b = A c ((has-kids (w .gp) s) .0) in rw (a .0, a .1, b .0)))
 
+  pub climbs-agree : (d : ℕ → ℕ) → climbs d (w .gp) h ≡ climbs d (w .gp) k
+  unfolding climbs climbsAt
+  climbs-agree d =
+      total-cong (λ g. total (λ c. d (h .at c) - d (h .at g)) (kids (w .gp) g)) (λ g. total (λ c. d (k .at c) - d (k .at g)) (kids (w .gp) g)) (nodes (w .gp))
+      (λ g t. total-cong (λ c. d (h .at c) - d (h .at g)) (λ c. d (k .at c) - d (k .at g)) (kids (w .gp) g)
+      (λ c s. let a = A g (node-has (w .gp) t) in let b = A c ((has-kids (w .gp) s) .0) in rw (a .0, b .0)))
+
   pub duplications-agree : duplications (w .gp) h ≡ duplications (w .gp) k
   unfolding duplications
   duplications-agree =

@@ -184,16 +184,16 @@ module _ {w : Pair} (S : Sound w) where
             F .none-yet g m (sym (L .there g z) ∙ f) c n a (kept L c o (r .0), λ y. z (sym a ∙ ap (up (w .gp)) y));
         half = λ g m f. elim (ℕ-discrete g u) [
           | yes z ↦ rw z (record {
-              child = v;
-              inside = h;
-              parent = refl;
-              arrived = (keeps L v (not-u v done-v) done-v, not-none v h);
-              its-place = P .here-now ∙ (F .right v h done-v) .0;
-              alone = λ x n a r. elim (ℕ-discrete x v) [
-                | yes y ↦ y
-                | no y ↦ absurd (F .none-yet u b t x n a (kept L x (not-u′ x (r .0)) (r .0), y))
-              ];
-            })
+            child = v;
+            inside = h;
+            parent = refl;
+            arrived = (keeps L v (not-u v done-v) done-v, not-none v h);
+            its-place = P .here-now ∙ (F .right v h done-v) .0;
+            alone = λ x n a r. elim (ℕ-discrete x v) [
+              | yes y ↦ y
+              | no y ↦ absurd (F .none-yet u b t x n a (kept L x (not-u′ x (r .0)) (r .0), y))
+            ];
+          })
           | no z ↦
               let H = F .half g m (sym (L .there g z) ∙ f) in
               let d = H .arrived .0 in

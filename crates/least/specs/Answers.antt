@@ -5,16 +5,20 @@
 --   leastOutcome w places labels dw lw == what the least history of w answers and leaves: "success writes the first q entries and
 --                     nothing after them"; a refusal leaves both tables as they were
 --   datedOf d, datingOf r == the answer of dating
+--   Datable, Told  <-> what dating by two tables needs, and that they tell the least history
 -- Assumes nothing.
 use Prim.Native.Nat.{ℕ, _≤_, _<_}
+use mathlib.Core.Path.{_≡_}
 use mathlib.Core.List.{List}
 use lib.ListN.{length}
 use Rattle.trees.specs.Rulings.{Ruling, accepted, refused, refusedBy}
 use Rattle.trees.specs.Tables.{Pair}
+use Rattle.trees.specs.Sound.{Treelike, Sound}
 use Rattle.trees.specs.Lent.{replaced}
 use Rattle.histories.specs.Histories.{leastPlaces, leastLabels}
 use Rattle.histories.specs.Dating.{Dated, notDuplication, from, between}
 use Rattle.histories.specs.Rules.{Counts, leastRuling}
+use Rattle.least.specs.Filling.{Filled}
 use Rattle.least.specs.declared.LeastCounts.{LeastCounts}
 use Rattle.least.specs.declared.LeastAnswer.{LeastAnswer}
 use Rattle.least.specs.declared.LeastAnswer.the-variants.{Done, Refused}
@@ -51,6 +55,19 @@ abbrev pub datedOf : Dating → Dated
 datedOf NotDuplication = notDuplication
 datedOf (From a) = from (a .0)
 datedOf (Between a b) = between (a .0) (b .0)
+
+-- what dating by the tables needs: a chain of parents that ends, and entries for every gene node
+pub record Datable (gp p l : List ℕ) (v : ℕ) : Type 0 where
+  pub tree : Treelike gp
+  pub inside : v < length gp
+  pub places-room : length gp ≤ length p
+  pub labels-room : length gp ≤ length l
+
+-- the tables tell the least history of two sound trees
+pub record Told (w : Pair) (gp p l : List ℕ) : Type 0 where
+  pub sound : Sound w
+  pub genes : w .gp ≡ gp
+  pub filled : Filled w p l
 
 abbrev pub datingOf : DatingAnswer → Ruling Dated
 datingOf (dating.Dated d) = accepted (datedOf d)

@@ -8,3 +8,4 @@ pub mod Rulings
 pub mod Sound
 pub mod Shape
 pub mod Judged
+pub mod Lent

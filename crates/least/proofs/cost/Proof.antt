@@ -7,25 +7,19 @@ use Rattle.histories.specs.Histories.{cost}
 use borrow.Author.Needs.{needs}
 use Rattle.least.proofs.cost.Statement.{statement}
 use Rattle.least.proofs.cost.Tie as tie
-use Rattle.least.proofs.cost.Reads as reads
-use Rattle.least.proofs.cost.Lts as lts
 
 product : (a b : ℕ) → a < 65536 → b < 4294967296 → a * b ≤ 281474976710656
 product a b x y = omega (arith, mul-le-mul {n₁ = a} {m₁ = b} {n₂ = 65536} {m₂ = 4294967296} (omega arith) (omega arith))
 
--- src/lib.rt:200:5
 mul-result : tie.Need-mul-result
 mul-result c = record { fits = omega (arith, product (c .args .dw) (c .args .duplications) (search needs) (search needs)) }
 
--- src/lib.rt:200:43
 mul-result-2 : tie.Need-mul-result-2
 mul-result-2 c = record { fits = omega (arith, product (c .args .lw) (c .args .losses) (search needs) (search needs)) }
 
--- src/lib.rt:200:5
 add-result : tie.Need-add-result
 add-result c = record { fits = omega (arith, product (c .args .dw) (c .args .duplications) (search needs) (search needs), product (c .args .lw) (c .args .losses) (search needs) (search needs)) }
 
--- src/lib.rt:197:1
 returns : tie.Need-returns
 unfolding cost
 returns c = refl

@@ -8,10 +8,6 @@ use Rattle.least.proofs.Turns.{Filling-to, to-start, to-next, to-end}
 use borrow.Author.Needs.{needs}
 use Rattle.least.proofs.fill.Statement.{statement}
 use Rattle.least.proofs.fill.Tie as tie
-use Rattle.least.proofs.fill.Reads as reads
-use Rattle.least.proofs.fill.Lts as lts
-use Rattle.least.proofs.mark.Reads as mark-reads
-use Rattle.least.proofs.take.Reads as take-reads
 
 abbrev Inv-loop : tie.InvT-loop
 Inv-loop species-parents species-taxa gene-parents gene-taxa places₀ labels₀ q k₀ places labels k = (q ≡ length gene-parents) × (k ≤ q) × Filling-to (pair species-parents species-taxa gene-parents gene-taxa) k places₀ places labels₀ labels
@@ -29,39 +25,30 @@ start c = start-mark (c .before .before .before .before)
 abbrev marked : tie.At-loop Inv-loop μ-loop → tie.After-mark Inv-loop μ-loop
 marked c = c .before .before .before
 
--- src/lib.rt:180:5
 mark-requires : tie.Need-mark-requires Inv-loop μ-loop
 mark-requires c κs = start-mark c .pre .labels-room
 
--- src/lib.rt:182:5
 loop-holds : tie.Need-loop-holds Inv-loop μ-loop
 loop-holds c = (refl, search needs, to-start (start-mark (c .before .before .before) .pre) (c .before .before .mark .ensures))
 
--- src/lib.rt:183:9
 take-requires : tie.Need-take-requires Inv-loop μ-loop
 take-requires c κs = let k = c .before .before .before in record { sound = start k .pre .sound; inside = search needs; filling = k .loop .inv .2 .filling }
 
--- src/lib.rt:192:9
 add-k : tie.Need-add-k Inv-loop μ-loop
 add-k c = search needs
 
--- src/lib.rt:182:5
 loop-less : tie.Need-loop-less Inv-loop μ-loop
 loop-less c = search needs
 
--- src/lib.rt:182:5
 loop-again : tie.Need-loop-again Inv-loop μ-loop
 loop-again c = let t = c .before .before .before .before in let k = t .before .before .before .before in (refl, search needs, to-next _ _ _ _ _ (k .loop .inv .2) (t .take .ensures))
 
--- src/lib.rt:168:1
 same-length : tie.Need-same-length Inv-loop μ-loop
 same-length c = c .before .loop .inv .2 .places-kept .size
 
--- src/lib.rt:168:1
 same-length-2 : tie.Need-same-length-2 Inv-loop μ-loop
 same-length-2 c = c .before .loop .inv .2 .labels-kept .size ∙ marked (c .before) .mark .ensures .kept .size
 
--- src/lib.rt:168:1
 returns : tie.Need-returns Inv-loop μ-loop
 returns c = to-end (start (c .before) .pre) (marked (c .before) .mark .ensures) _ _ _ (search needs) (c .before .loop .inv .2)
 

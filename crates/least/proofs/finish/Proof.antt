@@ -6,75 +6,55 @@ use Rattle.trees.proofs.Lines.{top-node}
 use borrow.Author.Needs.{needs}
 use Rattle.least.proofs.finish.Statement.{statement}
 use Rattle.least.proofs.finish.Tie as tie
-use Rattle.least.proofs.finish.Reads as reads
-use Rattle.least.proofs.finish.Lts as lts
-use Rattle.least.proofs.join.Reads as join-reads
-use Rattle.least.proofs.kind_of.Reads as kind-of-reads
 
 abbrev start : tie.After-slice-known4 → tie.Start
 start c = c .before .before .before .before .before
 
--- src/lib.rt:84:13
 mul-a : tie.Need-mul-a
 mul-a c = search needs
 
--- src/lib.rt:84:13
 slice-read-a : tie.Need-slice-read-a
 slice-read-a c = search needs
 
--- src/lib.rt:85:13
 mul-b : tie.Need-mul-b
 mul-b c = search needs
 
--- src/lib.rt:85:13
 slice-read-b : tie.Need-slice-read-b
 slice-read-b c = search needs
 
--- src/lib.rt:86:47
 cast-places : tie.Need-cast-places
 cast-places c = search needs
 
--- src/lib.rt:86:72
 cast-t15 : tie.Need-cast-t15
 cast-t15 c = search needs
 
--- src/lib.rt:86:9
 join-requires : tie.Need-join-requires
 join-requires c κs = search needs
 
--- src/lib.rt:87:17
 cast-place : tie.Need-cast-place
 cast-place c = omega (arith, top-node (c .before .join .ensures .left), start (c .before .before) .pre .few)
 
--- src/lib.rt:88:5
 mul-places : tie.Need-mul-places
 mul-places c = search needs
 
--- src/lib.rt:88:5
 slice-write-places : tie.Need-slice-write-places
 slice-write-places c = search needs
 
--- src/lib.rt:89:17
 kind-of-requires : tie.Need-kind-of-requires
 kind-of-requires c κs = search needs
 
--- src/lib.rt:89:5
 mul-labels : tie.Need-mul-labels
 mul-labels c = search needs
 
--- src/lib.rt:89:5
 slice-write-labels : tie.Need-slice-write-labels
 slice-write-labels c = search needs
 
--- src/lib.rt:74:1
 same-length : tie.Need-same-length
 same-length c = search needs
 
--- src/lib.rt:74:1
 same-length-2 : tie.Need-same-length-2
 same-length-2 c = search needs
 
--- src/lib.rt:74:1
 returns : tie.Need-returns
 returns c = record { at = c .before .before .join .result .0; meets = c .before .before .join .ensures; places = refl; labels = ap (λ x. set (start (c .before .before .before) .args .labels .now) (start (c .before .before .before) .args .u) x) (c .kind-of .ensures) }
 

@@ -11,9 +11,6 @@ use Rattle.histories.specs.Histories.{everyNode}
 use Rattle.least.proofs.Turns.{Going, going-start, going-root, going-half, going-ready, going-done, going-nearer}
 use Rattle.least.proofs.go_up.Statement.{statement}
 use Rattle.least.proofs.go_up.Tie as tie
-use Rattle.least.proofs.go_up.Reads as reads
-use Rattle.least.proofs.go_up.Lts as lts
-use Rattle.least.proofs.finish.Reads as finish-reads
 
 abbrev Inv-loop : tie.InvT-loop
 Inv-loop species-parents species-taxa gene-parents gene-taxa places₀ labels₀ leaf q v₀ places labels v = (q ≡ length gene-parents) × Going (pair species-parents species-taxa gene-parents gene-taxa) leaf v places₀ places labels₀ labels
@@ -43,87 +40,66 @@ lower c = search needs
 abbrev done-from : tie.After-finish Inv-loop μ-loop → tie.Else2 Inv-loop μ-loop
 done-from c = c .before .before .before
 
--- src/lib.rt:108:5
 loop-holds : tie.Need-loop-holds Inv-loop μ-loop
 loop-holds c = (refl, going-start (c .before .before .before .before .before .before .pre))
 
--- src/lib.rt:109:17
 mul-u : tie.Need-mul-u Inv-loop μ-loop
 mul-u c = omega (arith, here-now c .inside, few c)
 
--- src/lib.rt:109:17
 shared-slice-read-u : tie.Need-shared-slice-read-u Inv-loop μ-loop
 shared-slice-read-u c = here-now (c .before) .inside
 
--- src/lib.rt:109:17
 cast-u : tie.Need-cast-u Inv-loop μ-loop
 cast-u c = omega (arith, c .shared-slice-known5 .given (c .before .loop .v))
 
--- src/lib.rt:111:13
 same-length : tie.Need-same-length Inv-loop μ-loop
 same-length c = here-now (c .before .before) .places-kept .size
 
--- src/lib.rt:111:13
 same-length-2 : tie.Need-same-length-2 Inv-loop μ-loop
 same-length-2 c = here-now (c .before .before) .labels-kept .size
 
--- src/lib.rt:111:13
 returns : tie.Need-returns Inv-loop μ-loop
 returns c = going-root (start (c .before .before) .pre) (here-now (c .before .before)) (upper c)
 
--- src/lib.rt:113:12
 mul-if2 : tie.Need-mul-if2 Inv-loop μ-loop
 mul-if2 c = omega (arith, lower c, few (c .before .before))
 
--- src/lib.rt:113:12
 slice-read-if2 : tie.Need-slice-read-if2 Inv-loop μ-loop
 slice-read-if2 c = omega (arith, lower (c .before), here-now (c .before .before .before) .filling .labels-room)
 
--- src/lib.rt:114:25
 mul-places : tie.Need-mul-places Inv-loop μ-loop
 mul-places c = omega (arith, here-now (c .before .before .before .before) .inside, few (c .before .before .before .before))
 
--- src/lib.rt:114:25
 slice-read-places : tie.Need-slice-read-places Inv-loop μ-loop
 slice-read-places c = omega (arith, here-now (c .before .before .before .before .before) .inside, here-now (c .before .before .before .before .before) .filling .places-room)
 
--- src/lib.rt:114:13
 mul-places-2 : tie.Need-mul-places-2 Inv-loop μ-loop
 mul-places-2 c = omega (arith, lower (c .before .before .before), few (c .before .before .before .before .before))
 
--- src/lib.rt:114:13
 slice-write-places : tie.Need-slice-write-places Inv-loop μ-loop
 slice-write-places c = omega (arith, lower (c .before .before .before), here-now (c .before .before .before .before .before) .filling .places-room)
 
--- src/lib.rt:115:13
 mul-labels : tie.Need-mul-labels Inv-loop μ-loop
 mul-labels c = omega (arith, lower (c .before .before .before), few (c .before .before .before .before .before))
 
--- src/lib.rt:115:13
 slice-write-labels : tie.Need-slice-write-labels Inv-loop μ-loop
 slice-write-labels c = omega (arith, lower (c .before .before .before), here-now (c .before .before .before .before .before) .filling .labels-room)
 
--- src/lib.rt:116:13
 same-length-3 : tie.Need-same-length-3 Inv-loop μ-loop
 same-length-3 c = simp length-set (here-now (c .before .before .before .before .before) .places-kept .size)
 
--- src/lib.rt:116:13
 same-length-4 : tie.Need-same-length-4 Inv-loop μ-loop
 same-length-4 c = simp length-set (here-now (c .before .before .before .before .before) .labels-kept .size)
 
--- src/lib.rt:116:13
 returns-2 : tie.Need-returns-2 Inv-loop μ-loop
 returns-2 c = let k = c .before .before .before in going-half (start (k .before .before) .pre) (here-now (k .before .before)) (lower k) (c .before .if2 .taken)
 
--- src/lib.rt:118:9
 finish-requires : tie.Need-finish-requires Inv-loop μ-loop
 finish-requires c κs = let e = c .before .before in let k = e .before .before in going-ready (start (k .before .before) .pre) (here-now (k .before .before)) (lower k) (e .if2 .left)
 
--- src/lib.rt:108:5
 loop-less : tie.Need-loop-less Inv-loop μ-loop
 loop-less c = let k = done-from (c .before .before .before .before) .before .before in going-nearer (start (k .before .before) .pre) (here-now (k .before .before)) (lower k)
 
--- src/lib.rt:108:5
 loop-again : tie.Need-loop-again Inv-loop μ-loop
 loop-again c = let f = c .before .before .before .before in let e = done-from f in let k = e .before .before in (refl, going-done (start (k .before .before) .pre) (here-now (k .before .before)) (lower k) (e .if2 .left) _ _ (f .finish .ensures))
 

@@ -8,8 +8,6 @@ use Rattle.least.proofs.Joins.{Turn, turn}
 use borrow.Author.Needs.{needs}
 use Rattle.least.proofs.join.Statement.{statement}
 use Rattle.least.proofs.join.Tie as tie
-use Rattle.least.proofs.join.Reads as reads
-use Rattle.least.proofs.join.Lts as lts
 
 abbrev Inv-loop : tie.InvT-loop
 Inv-loop species-parents x₀ y₀ x y = (x < length species-parents) × (y < length species-parents) × ((m : ℕ) → Meet species-parents x y m → Meet species-parents x₀ y₀ m)
@@ -24,51 +22,39 @@ left c = turn (c .before .before .before .pre .0 .1) _ _ (search needs) (search 
 right : (c : tie.Else1 Inv-loop μ-loop) → Turn (c .before .before .before .args .species-parents .now) (c .before .before .loop .y) (c .before .before .loop .x)
 right c = turn (c .before .before .before .pre .0 .1) _ _ (search needs) (omega arith)
 
--- src/lib.rt:50:5
 loop-holds : tie.Need-loop-holds Inv-loop μ-loop
 loop-holds c = (c .pre .1, c .pre .2, λ m M. M)
 
--- src/lib.rt:52:17
 mul-x : tie.Need-mul-x Inv-loop μ-loop
 mul-x c = search needs
 
--- src/lib.rt:52:17
 shared-slice-read-x : tie.Need-shared-slice-read-x Inv-loop μ-loop
 shared-slice-read-x c = search needs
 
--- src/lib.rt:52:17
 cast-x : tie.Need-cast-x Inv-loop μ-loop
 cast-x c = omega (arith, c .shared-slice-known .given (c .before .before .before .loop .x))
 
--- src/lib.rt:50:5
 loop-less : tie.Need-loop-less Inv-loop μ-loop
 loop-less c = omega (arith, left (c .before) .falls)
 
--- src/lib.rt:50:5
 loop-again : tie.Need-loop-again Inv-loop μ-loop
 loop-again c = (omega (arith, left (c .before) .falls), search needs, λ m M. c .before .before .before .loop .inv .2 m (left (c .before) .meets m M))
 
--- src/lib.rt:54:17
 mul-y : tie.Need-mul-y Inv-loop μ-loop
 mul-y c = search needs
 
--- src/lib.rt:54:17
 shared-slice-read-y : tie.Need-shared-slice-read-y Inv-loop μ-loop
 shared-slice-read-y c = search needs
 
--- src/lib.rt:54:17
 cast-y : tie.Need-cast-y Inv-loop μ-loop
 cast-y c = omega (arith, c .shared-slice-known2 .given (c .before .before .before .loop .y))
 
--- src/lib.rt:50:5
 loop-less-2 : tie.Need-loop-less-2 Inv-loop μ-loop
 loop-less-2 c = omega (arith, right (c .before) .falls)
 
--- src/lib.rt:50:5
 loop-again-2 : tie.Need-loop-again-2 Inv-loop μ-loop
 loop-again-2 c = (search needs, omega (arith, right (c .before) .falls), λ m M. c .before .before .before .loop .inv .2 m (meet-swap (right (c .before) .meets m (meet-swap M))))
 
--- src/lib.rt:44:1
 returns : tie.Need-returns Inv-loop μ-loop
 returns c = c .before .loop .inv .2 (c .before .loop .x) (rw (c .loop-test .left) (meet-self (c .before .loop .inv .1)))
 

@@ -4,20 +4,15 @@ use Rattle.trees.specs.Rulings.{pick}
 use Rattle.least.specs.Filling.{kindOf}
 use Rattle.least.proofs.kind_of.Statement.{statement}
 use Rattle.least.proofs.kind_of.Tie as tie
-use Rattle.least.proofs.kind_of.Reads as reads
-use Rattle.least.proofs.kind_of.Lts as lts
 
--- src/lib.rt:65:9
 returns : tie.Need-returns
 unfolding kindOf pick
 returns c = rw (eq-eqb (c .before .args .a) (c .before .args .m) (c .if1 .taken))
 
--- src/lib.rt:68:9
 returns-2 : tie.Need-returns-2
 unfolding kindOf pick
 returns-2 c = rw (ne-eqb (c .before .before .args .a) (c .before .before .args .m) (c .before .if1 .left), eq-eqb (c .before .before .args .b) (c .before .before .args .m) (c .if2 .taken))
 
--- src/lib.rt:61:1
 returns-3 : tie.Need-returns-3
 unfolding kindOf pick
 returns-3 c = rw (ne-eqb (c .before .before .args .a) (c .before .before .args .m) (c .before .if1 .left), ne-eqb (c .before .before .args .b) (c .before .before .args .m) (c .if2 .left))

@@ -9,8 +9,6 @@ use Rattle.least.proofs.Turns.{kept-self, mark-turn}
 use borrow.Author.Needs.{needs}
 use Rattle.least.proofs.mark.Statement.{statement}
 use Rattle.least.proofs.mark.Tie as tie
-use Rattle.least.proofs.mark.Reads as reads
-use Rattle.least.proofs.mark.Lts as lts
 
 abbrev Inv-loop : tie.InvT-loop
 Inv-loop labels₀ q i₀ labels i = (i ≤ q) × Kept q labels₀ labels × ((g : ℕ) → g < i → getD labels g 0 ≡ 3)
@@ -18,35 +16,27 @@ Inv-loop labels₀ q i₀ labels i = (i ≤ q) × Kept q labels₀ labels × ((g
 abbrev μ-loop : tie.MeasureT-loop
 μ-loop labels₀ q i₀ labels i = q - i
 
--- src/lib.rt:130:5
 loop-holds : tie.Need-loop-holds Inv-loop μ-loop
 loop-holds c = (omega arith, kept-self (c .args .q) (c .args .labels .now), below-none _)
 
--- src/lib.rt:131:9
 mul-labels : tie.Need-mul-labels Inv-loop μ-loop
 mul-labels c = search needs
 
--- src/lib.rt:131:9
 slice-write-labels : tie.Need-slice-write-labels Inv-loop μ-loop
 slice-write-labels c = omega (arith, c .before .before .pre, c .before .loop .inv .1 .size)
 
--- src/lib.rt:132:9
 add-i : tie.Need-add-i Inv-loop μ-loop
 add-i c = search needs
 
--- src/lib.rt:130:5
 loop-less : tie.Need-loop-less Inv-loop μ-loop
 loop-less c = search needs
 
--- src/lib.rt:130:5
 loop-again : tie.Need-loop-again Inv-loop μ-loop
 loop-again c = let t = mark-turn (c .before .before .args .q) (c .before .loop .i) (c .before .before .args .labels .now) (c .before .loop .labels) (search needs) (omega (arith, c .before .before .pre, c .before .loop .inv .1 .size)) (c .before .loop .inv .1) (c .before .loop .inv .2) in (search needs, t .0, t .1)
 
--- src/lib.rt:125:1
 same-length : tie.Need-same-length Inv-loop μ-loop
 same-length c = c .before .loop .inv .1 .size
 
--- src/lib.rt:125:1
 returns : tie.Need-returns Inv-loop μ-loop
 returns c = record { kept = c .before .loop .inv .1; fresh = λ g h. c .before .loop .inv .2 g (omega arith) }
 

@@ -7,10 +7,6 @@ use Rattle.least.proofs.Turns.{take-inner, take-leaf, take-risen, home-
 use borrow.Author.Needs.{needs}
 use Rattle.least.proofs.take.Statement.{statement}
 use Rattle.least.proofs.take.Tie as tie
-use Rattle.least.proofs.take.Reads as reads
-use Rattle.least.proofs.take.Lts as lts
-use Rattle.judges.proofs.species_of.Reads as species-of-reads
-use Rattle.least.proofs.go_up.Reads as go-up-reads
 
 -- the places gone back to
 abbrev start : tie.After-shared-slice-known5 → tie.Start
@@ -26,55 +22,42 @@ risen : (c : tie.After-go-up) → let s = start (found c .before .before) in
     Risen (tables s) (s .args .k) (s .args .places .now) (c .go-up .last .1 .1 .1 .1 .0) (s .args .labels .now) (c .go-up .last .1 .1 .1 .1 .1 .0)
 risen c = let f = found c in take-risen (start (f .before .before) .pre) (f .before .if1 .left) _ (f .species-of .ensures) _ _ (c .go-up .ensures)
 
--- src/lib.rt:149:17
 mul-taxon : tie.Need-mul-taxon
 mul-taxon c = search needs
 
--- src/lib.rt:149:17
 shared-slice-read-taxon : tie.Need-shared-slice-read-taxon
 shared-slice-read-taxon c = search needs
 
--- src/lib.rt:151:9
 returns : tie.Need-returns
 returns c = take-inner (start (c .before) .pre) (c .if1 .taken)
 
--- src/lib.rt:153:9
 species-of-requires : tie.Need-species-of-requires
 species-of-requires c κs = search needs
 
--- src/lib.rt:154:17
 cast-places : tie.Need-cast-places
 cast-places c = let e = c .before .before in let s = start (e .before) in omega (arith, c .before .species-of .ensures, home-fits (s .pre .sound) (s .args .k) (s .pre .inside) (e .if1 .left))
 
--- src/lib.rt:154:5
 mul-places : tie.Need-mul-places
 mul-places c = search needs
 
--- src/lib.rt:154:5
 slice-write-places : tie.Need-slice-write-places
 slice-write-places c = search needs
 
--- src/lib.rt:155:5
 mul-labels : tie.Need-mul-labels
 mul-labels c = search needs
 
--- src/lib.rt:155:5
 slice-write-labels : tie.Need-slice-write-labels
 slice-write-labels c = search needs
 
--- src/lib.rt:156:5
 go-up-requires : tie.Need-go-up-requires
 go-up-requires c κs = let s = c .before .before .before in take-leaf (start (s .before .before) .pre) (s .before .if1 .left) _ (s .species-of .ensures)
 
--- src/lib.rt:137:1
 same-length : tie.Need-same-length
 same-length c = risen (c .before .before .before .before) .places-kept .size
 
--- src/lib.rt:137:1
 same-length-2 : tie.Need-same-length-2
 same-length-2 c = risen (c .before .before .before .before) .labels-kept .size
 
--- src/lib.rt:137:1
 returns-2 : tie.Need-returns-2
 returns-2 c = risen (c .before .before .before .before)
 

@@ -1,0 +1,51 @@
+-- One answer only: any two results that meet a contract of this crate are equal. Assumes nothing.
+use Prim.Native.Nat.{ℕ}
+use native.Mathlib.Omega.{arith}
+use mathlib.Core.Path.{_≡_, refl, sym, ap, _∙_}
+use Rattle.trees.specs.Rulings.{Ruling, accepted}
+use Rattle.trees.specs.declared.SpeciesNode.{SpeciesNode}
+use Rattle.trees.proofs.Rulings.{refusal-one}
+use Rattle.trees.proofs.Meets.{meet-one}
+use Rattle.histories.specs.Rules.{Counts}
+use Rattle.least.specs.Answers.{countsOf, leastOf, datedOf, datingOf}
+use Rattle.least.specs.declared.LeastCounts.{LeastCounts}
+use Rattle.least.specs.declared.LeastAnswer.{LeastAnswer}
+use Rattle.least.specs.declared.LeastAnswer.the-variants.{Done, Refused}
+use Rattle.least.specs.declared.Dating.{Dating}
+use Rattle.least.specs.declared.Dating.the-variants.{NotDuplication, From, Between}
+use Rattle.least.specs.declared.DatingAnswer.{DatingAnswer}
+use Rattle.least.specs.declared.DatingAnswer.the-variants as dating
+
+-- the counts handed back are fixed by the paper's counts
+counts-one : (a b : LeastCounts) → countsOf a ≡ countsOf b → a ≡ b
+counts-one a b e =
+    ap (λ (c : Counts). record { duplications = c .duplications; losses = c .losses; speciations = c .speciations; climbs = c .climbs; cost = c .cost }) e
+
+pub least-one : (a b : LeastAnswer) → leastOf a ≡ leastOf b → a ≡ b
+least-one (Done a) (Done b) e = let q : countsOf a ≡ countsOf b = cc in ap Done (counts-one a b q)
+least-one (Done a) (Refused s) e = let z : _≡_ {A = ℕ} 0 1 = cc in absurd (omega arith)
+least-one (Refused r) (Done b) e = let z : _≡_ {A = ℕ} 0 1 = cc in absurd (omega arith)
+least-one (Refused r) (Refused s) e = ap Refused (refusal-one r s e)
+
+node-one : (a b : SpeciesNode) → a .0 ≡ b .0 → a ≡ b
+node-one a b e = ap (λ (n : ℕ). record { 0 = n }) e
+
+pub dated-same : (a b : Dating) → datedOf a ≡ datedOf b → a ≡ b
+dated-same NotDuplication NotDuplication e = refl
+dated-same NotDuplication (From b) e = let z : _≡_ {A = ℕ} 0 1 = cc in absurd (omega arith)
+dated-same NotDuplication (Between b d) e = let z : _≡_ {A = ℕ} 0 1 = cc in absurd (omega arith)
+dated-same (From a) NotDuplication e = let z : _≡_ {A = ℕ} 0 1 = cc in absurd (omega arith)
+dated-same (From a) (From b) e = let q : a .0 ≡ b .0 = cc in ap From (node-one a b q)
+dated-same (From a) (Between b d) e = let z : _≡_ {A = ℕ} 0 1 = cc in absurd (omega arith)
+dated-same (Between a c) NotDuplication e = let z : _≡_ {A = ℕ} 0 1 = cc in absurd (omega arith)
+dated-same (Between a c) (From b) e = let z : _≡_ {A = ℕ} 0 1 = cc in absurd (omega arith)
+dated-same (Between a c) (Between b d) e =
+    let p : a .0 ≡ b .0 = cc in
+    let q : c .0 ≡ d .0 = cc in
+    rw (node-one a b p, node-one c d q)
+
+pub dating-one : (a b : DatingAnswer) → datingOf a ≡ datingOf b → a ≡ b
+dating-one (dating.Dated a) (dating.Dated b) e = let q : datedOf a ≡ datedOf b = cc in ap dating.Dated (dated-same a b q)
+dating-one (dating.Dated a) (dating.Refused s) e = let z : _≡_ {A = ℕ} 0 1 = cc in absurd (omega arith)
+dating-one (dating.Refused r) (dating.Dated b) e = let z : _≡_ {A = ℕ} 0 1 = cc in absurd (omega arith)
+dating-one (dating.Refused r) (dating.Refused s) e = ap dating.Refused (refusal-one r s e)
