@@ -35,6 +35,13 @@ placed-is w counted h g =
       (λ p. and-both a b (lt→ltb (h .at g) (length (w .sp)) (p .0)) (p .1)),
     )
 
+pub fitting-is : (w : Pair) (counted : ℕ → Bool) (h : History) (g : ℕ) → T (fitting w counted h g) ↔ (T (placed w counted h g) × T (rightKind w h g))
+unfolding fitting
+fitting-is w counted h g =
+    let a = placed w counted h g in
+    let b = rightKind w h g in
+    ((λ t. (and-left a b t, and-right a b t)), (λ p. and-both a b (p .0) (p .1)))
+
 module _ (w : Pair) (h : History) (g : ℕ) where
   pub right-kind-leaf : Leaf (w .gp) g → T (rightKind w h g) ↔ (h .kind g ≡ 0)
   unfolding rightKind pick

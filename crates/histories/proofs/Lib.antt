@@ -11,3 +11,4 @@ pub mod Dating
 pub mod Judged
 pub mod Tables
 pub mod Accepted
+pub mod Rooms

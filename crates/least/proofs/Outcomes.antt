@@ -6,7 +6,7 @@ use mathlib.Core.Bool.{Bool, true, false}
 use mathlib.Core.List.{List, [], _∷_, _++_}
 use lib.ListN.{length, getD, drop}
 use lib.Dec.{T, ltb, leb}
-use borrow.Author.Tests.{lt-ltb, le-ltb, le-leb, lt-leb}
+use borrow.Author.Tests.{le-ltb}
 use Rattle.trees.specs.Rulings.{Ruling, accepted, refused, Rule, whole, ruling, verdict, fine, numberOf, treeOf, Passes, Every}
 use Rattle.trees.specs.Tables.{Pair}
 use Rattle.trees.specs.Sound.{Sound}
@@ -84,15 +84,6 @@ module _ (w : Pair) (p l : List ℕ) (dw lw : ℕ) where
         let r : leastRuling w p l dw lw ≡ accepted c =
         (history-accepted w p l dw lw c) .1 (record { sound = least-sound; places-room = b; labels-room = d; value = sym e }) in
         rw (r, filled-places least-sound F, filled-labels least-sound F)
-
--- the test of rule 7, as the code makes it
-pub short-places : (w : Pair) (p l : List ℕ) → length p < length (w .gp) → roomy w p l ≡ false
-unfolding roomy
-short-places w p l h = rw (lt-leb (length (w .gp)) (length p) h)
-
-pub short-labels : (w : Pair) (p l : List ℕ) → length (w .gp) ≤ length p → length l < length (w .gp) → roomy w p l ≡ false
-unfolding roomy
-short-labels w p l a h = rw (le-leb (length (w .gp)) (length p) a, lt-leb (length (w .gp)) (length l) h)
 
 -- the counts from the tally of the tables
 pub counts-from : (w : Pair) (dw lw : ℕ) (t : Counted) (k : ℕ) → t ≡ historyTally w (least w) → k ≡ cost dw lw (t .duplications) (t .losses)

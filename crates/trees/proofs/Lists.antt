@@ -309,3 +309,16 @@ total-more f i = rw (add-one i, range-more 0 i, total-append f (range 0 i) ((0 +
 pub total-part : (f : ℕ → ℕ) (i k : ℕ) → total f (range 0 i) ≤ total f (range 0 (i + k))
 total-part f i zero = rw (add-zero i) (omega arith)
 total-part f i (suc k) = let e : i + suc k ≡ (i + k) + 1 = omega arith in rw (e, total-more f (i + k)) (omega (arith, total-part f i k))
+
+-- a filter of the first numbers: one number more
+pub keep-last : (p : ℕ → Bool) (i : ℕ) → keepIf p (range 0 (i + 1)) ≡ keepIf p (range 0 i) ++ consIf (p i) i []
+unfolding keepIf
+keep-last p i = rw (add-one i, range-more 0 i, keep-append p (range 0 i) ((0 + i) ∷ []), zero-add i)
+
+-- some member passes a test, or all fail it
+pub any-cases : (p : ℕ → Bool) (l : List ℕ) → ((x : ℕ) × T (has x l) × T (p x)) ⊎ ((x : ℕ) → T (has x l) → p x ≡ false)
+any-cases p l =
+    elim (test (any p l)) [
+      | inl e ↦ inl (has-any p l (true-T e))
+      | inr e ↦ inr (λ x t. elim (test (p x)) [ inl f ↦ absurd (rw e at (any-has p x l t (true-T f))) | inr f ↦ f ])
+    ]

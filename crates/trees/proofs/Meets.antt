@@ -25,7 +25,7 @@ module _ {par : List ℕ} where
       }
 
 module _ {par : List ℕ} (G : Grounded par) where
-  rank-le : {a x : ℕ} → Below par a x → G .rank a ≤ G .rank x
+  pub rank-le : {a x : ℕ} → Below par a x → G .rank a ≤ G .rank x
   rank-le (here l) = omega arith
   rank-le {x = x} (step l p) = omega (arith, rank-le p, G .falls x l (low-node p))
 

@@ -7,9 +7,10 @@ use Rattle.trees.specs.Sound.{Sound}
 use Rattle.trees.specs.declared.Refusal.{Refusal}
 use Rattle.trees.proofs.Judged.{pair-accepted}
 use Rattle.judges.specs.Answers.{judgedOf}
+use Rattle.histories.proofs.Rooms.{short-places, short-labels}
 use Rattle.counts.specs.Tallies.{talliedOf}
 use Rattle.least.specs.Answers.{Outcome}
-use Rattle.least.proofs.Outcomes.{filled-story, filled-tally, least-refused, least-sound, least-short, least-done, short-places, short-labels, counts-from}
+use Rattle.least.proofs.Outcomes.{filled-story, filled-tally, least-refused, least-sound, least-short, least-done, counts-from}
 use borrow.Author.Needs.{needs}
 use Rattle.least.proofs.least_history.Statement.{statement}
 use Rattle.least.proofs.least_history.Tie as tie
