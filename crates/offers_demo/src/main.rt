@@ -10,7 +10,14 @@ fn word(n: u64) {
 fn offer(parents: &[u16], taxa: &[u32], places: &[u16], labels: &[u16]) {
     let species_parents = [65535u16, 0, 1, 1, 0];
     let species_taxa = [0u32, 0, 11, 12, 13];
-    let answer = offers::judge_offer(&species_parents, &species_taxa, parents, taxa, places, labels);
+    let answer = offers::judge_offer(
+        &species_parents,
+        &species_taxa,
+        parents,
+        taxa,
+        places,
+        labels,
+    );
     match answer {
         Offered::Legal(c) => {
             io::write_all(STDOUT_FILENO, b"legal: duplications losses speciations ");

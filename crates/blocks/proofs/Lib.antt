@@ -1,0 +1,10 @@
+pub mod Halves
+pub mod Sums
+pub mod Blocks
+pub mod Stored
+pub mod Sealing
+pub mod Image
+pub mod Searches
+pub mod Both
+pub mod Judging
+pub mod One

@@ -1,0 +1,4 @@
+pub mod Halves
+pub mod Blocks
+pub mod Image
+pub mod Answers

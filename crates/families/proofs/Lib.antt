@@ -1,0 +1,5 @@
+pub mod Runs
+pub mod Families
+pub mod Opened
+pub mod Loaded
+pub mod Kept

@@ -1,0 +1,46 @@
+// Where the words of an image stand. A table is passed word by word with no division.
+ghost use mathlib.Core.Path.{_≡_};
+ghost use Prim.Native.Nat.{_+_, _*_, _/_, _%_, _<_};
+ghost use lib.ListN.{length};
+ghost use Rattle.blocks.specs.Blocks.{word, stored};
+ghost use Rattle.words.specs.Words.{offset, after};
+use blocks::word;
+
+// The byte at which word i stands.
+pub(crate) fn offset_of(i: usize) -> usize
+    requires { ⌜ i < 4611686018427387904 ⌝ }
+    ensures { λ r. ⌜ r ≡ offset i ⌝ }
+{
+    i / 253 * 512 + 2 + 2 * (i % 253)
+}
+
+// The byte at which the word behind the one at `at` stands.
+pub(crate) fn next(at: usize) -> usize
+    requires { ⌜ at < 9223372036854775808 ⌝ }
+    ensures { λ r. ⌜ r ≡ after at ⌝ }
+{
+    if at % 512 == 506 { at + 8 } else { at + 2 }
+}
+
+fn low_high(low: u16, high: u16) -> u32
+    ensures { λ r. ⌜ r ≡ low + 65536 * high ⌝ }
+{
+    (low as u32) + 65536 * (high as u32)
+}
+
+// The number of 32 bits whose low word stands at byte `at`.
+pub(crate) fn long_at(s: &[u8], at: usize) -> u32
+    requires { ⌜ after at + 1 < length (now s) ⌝ }
+    ensures { λ r. ⌜ r ≡ word (now (s .entry)) at + 65536 * word (now (s .entry)) (after at) ⌝ }
+{
+    low_high(word::word_at(s, at), word::word_at(s, next(at)))
+}
+
+// The number x of 32 bits put as two words, the low one at byte `at`; all other bytes stay.
+pub(crate) fn put_long(s: &mut [u8], at: usize, x: u32)
+    requires { ⌜ after at + 1 < length (now s) ⌝ }
+    ensures { λ r. ⌜ now (s .exit) ≡ stored (stored (now (s .entry)) at (x % 65536)) (after at) (x / 65536) ⌝ }
+{
+    word::put_word(s, at, (x % 65536) as u16);
+    word::put_word(s, next(at), (x / 65536) as u16);
+}
