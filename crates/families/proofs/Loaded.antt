@@ -60,7 +60,7 @@ module _ (sp st s : List ℕ) where
       is-sized _ _ (record { some = omega (arith, o .frame .genes); few = omega (arith, o .frame .genes); even = even-family (content s) room .genes })
 
   story-is : Opened sp st s
-      → Every Passes (storyRules sp st (familyOf (content s)))
+      → Every Passes (storyRules (storedPair sp st (familyOf (content s))) (storedHistory (familyOf (content s))))
       ↔ (Sound (storedPair sp st (familyOf (content s))) × Legal (storedPair sp st (familyOf (content s))) everyNode (storedHistory (familyOf (content s))))
   unfolding storyRules
   story-is o =
@@ -111,7 +111,7 @@ module _ (sp st s : List ℕ) (t : Lent) where
   load-accepted a =
       let f = familyOf (content s) in
       let x = entryRules sp st s t in
-      let y = storyRules sp st f in
+      let y = storyRules (storedPair sp st f) (storedHistory f) in
       let k = ruling-is (x ++ y) (contentsOf (storedPair sp st f) (storedHistory f)) a in (
         (λ e.
             let (p, v) = k .0 e in
@@ -126,7 +126,7 @@ module _ (sp st s : List ℕ) (t : Lent) where
   unfolding load
   load-leaves a d =
       let x : verdict (entryRules sp st s t) ≡ accepted fine = ruling-passes _ fine (entry-is .1 (d .opened, d .lent)) in
-      let y : verdict (storyRules sp st (familyOf (content s))) ≡ accepted fine = ruling-passes _ fine (story-is sp st s (d .opened) .1 (d .sound, d .legal)) in
+      let y : verdict (storyRules (storedPair sp st (familyOf (content s))) (storedHistory (familyOf (content s)))) ≡ accepted fine = ruling-passes _ fine (story-is sp st s (d .opened) .1 (d .sound, d .legal)) in
       rw (x, y, load-accepted a .1 d)
 
 -- ---- a write

@@ -8,7 +8,7 @@
 --   contentRules ..   == 16 to 18, of an image whose blocks are right
 --   openRules ..      == the rules that need no lent table: "rack's species 1-5, then 13-18"
 --   entryRules ..     == those and "7 for the four lent tables"
---   storyRules ..     == "gene 2, 3, 4, 6, then 8-11"
+--   storyRules w h    == "gene 2, 3, 4, 6, then 8-11", of two trees and a history
 --   Contents, contentsOf w h == what an accepted load answers: p, q, and the duplications and losses of the stored history
 --   tableAfter e r q new old == what a lent table holds after the rulings e of the entry and r of the story:
 --                        unchanged; "the first q entries .. zero and the rest unchanged"; the first q entries new
@@ -73,9 +73,8 @@ storedPair sp st f = pair sp st (f .gp) (f .gt)
 abbrev pub storedHistory : Family → History
 storedHistory f = told (f .places) (f .labels)
 
-unfoldable pub storyRules : List ℕ → List ℕ → Family → List Rule
-storyRules sp st f =
-    familyRules (storedPair sp st f) ++ descentRules (storedPair sp st f) everyNode (storedHistory f)
+unfoldable pub storyRules : Pair → History → List Rule
+storyRules w h = familyRules w ++ descentRules w everyNode h
 
 pub record Contents : Type 0 where
   pub species : ℕ
@@ -100,10 +99,12 @@ unfoldable pub load : List ℕ → List ℕ → List ℕ → Lent → Loading
 load sp st s t =
     let f = familyOf (content s) in
     let q = geneCount (content s) in
+    let w = storedPair sp st f in
+    let h = storedHistory f in
     let e = verdict (entryRules sp st s t) in
-    let r = verdict (storyRules sp st f) in
+    let r = verdict (storyRules w h) in
     record {
-      answer = ruling (entryRules sp st s t ++ storyRules sp st f) (contentsOf (storedPair sp st f) (storedHistory f));
+      answer = ruling (entryRules sp st s t ++ storyRules w h) (contentsOf w h);
       tables =
           record {
             gp = tableAfter e r q (f .gp) (t .gp);

@@ -1,0 +1,108 @@
+-- `replay::request`: no index leaves its table. Assumes nothing.
+use native.Mathlib.Omega.{arith}
+use mathlib.Core.Path.{sym}
+use lib.Seq.{length-take-le}
+use borrow.Author.Needs.{needs}
+use Rattle.replay.proofs.request.Statement.{statement}
+use Rattle.replay.proofs.request.Tie as tie
+
+slice-aggregate-words : tie.Need-slice-aggregate-words
+slice-aggregate-words c = search needs
+
+words-requires : tie.Need-words-requires
+words-requires c κs = search needs
+
+enum-known-m : tie.Need-enum-known-m
+enum-known-m c = search needs
+
+enum-told : tie.Need-enum-told
+enum-told c = search needs
+
+same-length : tie.Need-same-length
+same-length c = search needs
+
+returns : tie.Need-returns
+returns c = search needs
+
+slice-aggregate-longs : tie.Need-slice-aggregate-longs
+slice-aggregate-longs c = search needs
+
+longs-requires : tie.Need-longs-requires
+longs-requires c κs = search needs
+
+enum-known-n : tie.Need-enum-known-n
+enum-known-n c = search needs
+
+enum-told-2 : tie.Need-enum-told-2
+enum-told-2 c = search needs
+
+same-length-2 : tie.Need-same-length-2
+same-length-2 c = search needs
+
+returns-2 : tie.Need-returns-2
+returns-2 c = search needs
+
+same-length-3 : tie.Need-same-length-3
+same-length-3 c = search needs
+
+returns-3 : tie.Need-returns-3
+returns-3 c = search needs
+
+same-length-4 : tie.Need-same-length-4
+same-length-4 c = search needs
+
+returns-4 : tie.Need-returns-4
+returns-4 c = search needs
+
+array-share-prefix-parents : tie.Need-array-share-prefix-parents
+array-share-prefix-parents c = search needs
+
+slice-aggregate-with-species : tie.Need-slice-aggregate-with-species
+slice-aggregate-with-species c = sym (length-take-le _ _ (omega arith))
+
+array-share-prefix-taxa : tie.Need-array-share-prefix-taxa
+array-share-prefix-taxa c = search needs
+
+slice-aggregate-with-species-2 : tie.Need-slice-aggregate-with-species-2
+slice-aggregate-with-species-2 c = sym (length-take-le _ _ (omega arith))
+
+with-species-requires : tie.Need-with-species-requires
+with-species-requires c κs = search needs
+
+same-length-5 : tie.Need-same-length-5
+same-length-5 c = search needs
+
+same-length-6 : tie.Need-same-length-6
+same-length-6 c = search needs
+
+returns-5 : tie.Need-returns-5
+returns-5 c = search needs
+
+pub request-spec : {M : Type 1} → statement M
+request-spec =
+    tie.close
+    (tie.spec
+    slice-aggregate-words
+    words-requires
+    enum-known-m
+    enum-told
+    same-length
+    returns
+    slice-aggregate-longs
+    longs-requires
+    enum-known-n
+    enum-told-2
+    same-length-2
+    returns-2
+    same-length-3
+    returns-3
+    same-length-4
+    returns-4
+    array-share-prefix-parents
+    slice-aggregate-with-species
+    array-share-prefix-taxa
+    slice-aggregate-with-species-2
+    with-species-requires
+    same-length-5
+    same-length-6
+    returns-5)
