@@ -1,13 +1,17 @@
 -- What the rack's collector hands in: two tables as bytes.                              (01, "The host and the program")
 --   fits parents taxa == do the lengths make two equal tables?                           (01, "lengths that don't make two equal tables give 1")
 --   rackParents b, rackTaxa b == the tables: "Tables come as bytes, low byte first"; 2 bytes a parent, 4 a taxon
+--   hostRuling ..     == what loading the image on the rack answers; 1 where the lengths do not fit
+--   numberIn, treeIn, placeIn, duplicationsIn, lossesIn == the number that each call answers
 -- Assumes nothing.
 use Prim.Native.Nat.{ℕ, _*_, _/_, _%_}
 use mathlib.Core.Bool.{Bool, _&&_}
 use mathlib.Core.List.{List}
-use lib.ListN.{length}
+use lib.ListN.{length, replicate}
 use lib.Dec.{eqb}
+use Rattle.trees.specs.Rulings.{Ruling, accepted, refused, pick}
 use Rattle.blocks.specs.Halves.{wordsOf, longsOf}
+use Rattle.families.specs.Loading.{Lent, Contents, load}
 
 unfoldable pub fits : List ℕ → List ℕ → Bool
 fits parents taxa = (eqb (length parents % 2) 0 && eqb (length taxa % 4) 0) && eqb (length parents / 2) (length taxa / 4)
@@ -17,3 +21,33 @@ rackParents b = wordsOf b
 
 abbrev pub rackTaxa : List ℕ → List ℕ
 rackTaxa b = longsOf (wordsOf b)
+
+-- the tables that a call works in; the host lends none
+abbrev pub scratch : Lent
+scratch = record { gp = replicate 2047 0; gt = replicate 2047 0; places = replicate 2047 0; labels = replicate 2047 0 }
+
+-- the image against the rack's tables
+unfoldable pub hostRuling : List ℕ → List ℕ → List ℕ → Ruling Contents
+hostRuling image parents taxa = pick (fits parents taxa) ((load (rackParents parents) (rackTaxa taxa) image scratch) .answer) (refused 1 1 0)
+
+-- "the refusal number of an image against the rack's two species tables (0 if none)", and its tree and place
+abbrev pub numberIn : Ruling Contents → ℕ
+numberIn (accepted c) = 0
+numberIn (refused n t v) = n
+
+abbrev pub treeIn : Ruling Contents → ℕ
+treeIn (accepted c) = 0
+treeIn (refused n t v) = t
+
+abbrev pub placeIn : Ruling Contents → ℕ
+placeIn (accepted c) = 0
+placeIn (refused n t v) = v
+
+-- "the duplications and losses of the history stored in it (0 if refused)"
+abbrev pub duplicationsIn : Ruling Contents → ℕ
+duplicationsIn (accepted c) = c .duplications
+duplicationsIn (refused n t v) = 0
+
+abbrev pub lossesIn : Ruling Contents → ℕ
+lossesIn (accepted c) = c .losses
+lossesIn (refused n t v) = 0

@@ -1,2 +1,69 @@
 // What the rack's C collector asks: the refusal of an image against the rack's two species tables, and what its history counts.
+// Every slice is a pointer and a length on the C side; include/panheron.h declares the calls.
+mod ask;
 mod decode;
+
+ghost use mathlib.Core.Path.{_≡_};
+ghost use Prim.Native.Nat.{_%_};
+ghost use Rattle.collector.specs.Host.{hostRuling, numberIn, treeIn, placeIn, duplicationsIn, lossesIn};
+use images::load::Loaded;
+
+// The number of the refusal, or 0.
+#[no_mangle]
+pub extern "C" fn panheron_refusal(image: &[u8], parents: &[u8], taxa: &[u8]) -> u32
+    ensures { λ r. ⌜ r ≡ numberIn (hostRuling (now (image .entry)) (now (parents .entry)) (now (taxa .entry))) ⌝ }
+{
+    let answer = ask::ask(image, parents, taxa);
+    match answer {
+        Loaded::Family(_) => 0,
+        Loaded::Refused(r) => r.number as u32,
+    }
+}
+
+// The tree of the refusal (1 species, 2 gene), or 0.
+#[no_mangle]
+pub extern "C" fn panheron_tree(image: &[u8], parents: &[u8], taxa: &[u8]) -> u32
+    ensures { λ r. ⌜ r ≡ treeIn (hostRuling (now (image .entry)) (now (parents .entry)) (now (taxa .entry))) ⌝ }
+{
+    let answer = ask::ask(image, parents, taxa);
+    match answer {
+        Loaded::Family(_) => 0,
+        Loaded::Refused(r) => r.tree as u32,
+    }
+}
+
+// The place of the refusal: a node of that tree, a block of the image, or 0.
+#[no_mangle]
+pub extern "C" fn panheron_place(image: &[u8], parents: &[u8], taxa: &[u8]) -> u32
+    ensures { λ r. ⌜ r ≡ placeIn (hostRuling (now (image .entry)) (now (parents .entry)) (now (taxa .entry))) % 4294967296 ⌝ }
+{
+    let answer = ask::ask(image, parents, taxa);
+    match answer {
+        Loaded::Family(_) => 0,
+        Loaded::Refused(r) => (r.place % 4294967296) as u32,
+    }
+}
+
+// The duplications of the stored history, or 0.
+#[no_mangle]
+pub extern "C" fn panheron_duplications(image: &[u8], parents: &[u8], taxa: &[u8]) -> u32
+    ensures { λ r. ⌜ r ≡ duplicationsIn (hostRuling (now (image .entry)) (now (parents .entry)) (now (taxa .entry))) ⌝ }
+{
+    let answer = ask::ask(image, parents, taxa);
+    match answer {
+        Loaded::Family(c) => c.duplications,
+        Loaded::Refused(_) => 0,
+    }
+}
+
+// The losses of the stored history, or 0.
+#[no_mangle]
+pub extern "C" fn panheron_losses(image: &[u8], parents: &[u8], taxa: &[u8]) -> u32
+    ensures { λ r. ⌜ r ≡ lossesIn (hostRuling (now (image .entry)) (now (parents .entry)) (now (taxa .entry))) ⌝ }
+{
+    let answer = ask::ask(image, parents, taxa);
+    match answer {
+        Loaded::Family(c) => c.losses,
+        Loaded::Refused(_) => 0,
+    }
+}

@@ -1,0 +1,61 @@
+-- What each way through a question answers. Assumes nothing.
+use Prim.Native.Nat.{ℕ, _+_, _*_, _/_, _%_, _≤_, _<_}
+use native.Mathlib.Omega.{arith}
+use mathlib.Core.Path.{_≡_, refl, sym, ap, _∙_}
+use mathlib.Core.Bool.{Bool, true, false, _&&_}
+use mathlib.Core.List.{List, [], _∷_, _++_}
+use lib.ListN.{length}
+use lib.Dec.{T, eqb, leb, eqb→eq}
+use borrow.Author.Tests.{lt-leb, le-leb, eq-eqb, ne-eqb}
+use Rattle.trees.specs.Rulings.{Ruling, accepted, refused, whole, ruling, pick, numberOf, treeOf}
+use Rattle.trees.specs.Rules.{sized, speciesRules}
+use Rattle.trees.proofs.Bools.{and-left, and-right, true-T, test}
+use Rattle.trees.proofs.Rulings.{ruling-fail}
+use Rattle.families.specs.Loading.{openRules, entryRules, load}
+use Rattle.collector.specs.Host.{fits, rackParents, rackTaxa, scratch, hostRuling}
+use Rattle.collector.proofs.Decoding.{length-parents}
+
+pub host-unfit : (image parents taxa : List ℕ) → fits parents taxa ≡ false → refused 1 1 0 ≡ hostRuling image parents taxa
+unfolding hostRuling pick
+host-unfit image parents taxa e = rw e
+
+pub host-fit : (image parents taxa : List ℕ) → fits parents taxa ≡ true → (load (rackParents parents) (rackTaxa taxa) image scratch) .answer ≡ hostRuling image parents taxa
+unfolding hostRuling pick
+host-fit image parents taxa e = rw e
+
+-- the lengths of tables that fit
+pub fit-lengths : (parents taxa : List ℕ) → fits parents taxa ≡ true → (length parents ≡ 2 * (length parents / 2)) × (length taxa ≡ 4 * (length parents / 2))
+unfolding fits
+fit-lengths parents taxa e =
+    let a = eqb (length parents % 2) 0 in
+    let b = eqb (length taxa % 4) 0 in
+    let c = eqb (length parents / 2) (length taxa / 4) in
+    let t = true-T e in
+    let ab = and-left (a && b) c t in
+    let x = eqb→eq (length parents % 2) 0 (and-left a b ab) in
+    let y = eqb→eq (length taxa % 4) 0 (and-right a b ab) in
+    let z = eqb→eq (length parents / 2) (length taxa / 4) (and-right (a && b) c t) in
+    (omega (arith, x), omega (arith, y, z))
+
+-- more entries than a tree may have
+pub host-long : (image parents taxa : List ℕ) → fits parents taxa ≡ true → 2047 < length parents / 2 → refused 1 1 0 ≡ hostRuling image parents taxa
+unfolding load entryRules openRules speciesRules numberOf treeOf sized
+host-long image parents taxa e l =
+    let n = length parents / 2 in
+    let len : length (rackParents parents) ≡ n = length-parents parents n ((fit-lengths parents taxa e) .0) in
+    let z : sized (rackParents parents) (rackTaxa taxa) ≡ false = rw (len, le-leb 1 n (omega arith), lt-leb n 2047 l) in
+    sym (ruling-fail (whole 1 1 0 (sized (rackParents parents) (rackTaxa taxa))) _ _ 0 (refl, z)) ∙ host-fit image parents taxa e
+
+-- the test of the lengths, as the code makes it
+module _ (parents taxa : List ℕ) where
+  pub fits-odd : (length parents % 2 ≡ 0 → ⊥) → false ≡ fits parents taxa
+  unfolding fits
+  fits-odd n = rw (ne-eqb (length parents % 2) 0 n)
+
+  pub fits-part : length parents % 2 ≡ 0 → (length taxa % 4 ≡ 0 → ⊥) → false ≡ fits parents taxa
+  unfolding fits
+  fits-part e n = rw (eq-eqb (length parents % 2) 0 e, ne-eqb (length taxa % 4) 0 n)
+
+  pub fits-same : length parents % 2 ≡ 0 → length taxa % 4 ≡ 0 → eqb (length parents / 2) (length taxa / 4) ≡ fits parents taxa
+  unfolding fits
+  fits-same e f = rw (eq-eqb (length parents % 2) 0 e, eq-eqb (length taxa % 4) 0 f)
