@@ -2,6 +2,7 @@
 mod calls;
 mod input;
 mod output;
+mod stored;
 
 use calls::Step;
 use input::Cursor;
@@ -60,6 +61,16 @@ fn with_trees(
             buffer,
             used,
         ),
+        6 => stored::written(
+            source,
+            from,
+            species_parents,
+            species_taxa,
+            gene_parents,
+            gene_taxa,
+            buffer,
+            used,
+        ),
         _ => Step::Bad(used),
     }
 }
@@ -76,6 +87,9 @@ fn with_species(
 ) -> Step {
     if code == 1 {
         return calls::species(species_parents, species_taxa, from, buffer, used);
+    }
+    if code == 7 {
+        return stored::loaded(source, from, species_parents, species_taxa, buffer, used);
     }
     let mut parents = [0u16; 2100];
     let mut taxa = [0u32; 2100];
@@ -106,6 +120,15 @@ fn with_species(
 
 // One request, behind its code.
 fn request(code: u64, source: &mut [u8], from: Cursor, buffer: &mut [u8], used: usize) -> Step {
+    if code == 8 {
+        return stored::host(source, from, buffer, used);
+    }
+    if code == 0 {
+        return Step::Bad(used);
+    }
+    if 8 < code {
+        return Step::Bad(used);
+    }
     let mut parents = [0u16; 2100];
     let mut taxa = [0u32; 2100];
     let Table::Read(m, then) = input::words(source, from, &mut parents) else {

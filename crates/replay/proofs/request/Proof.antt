@@ -6,6 +6,24 @@ use borrow.Author.Needs.{needs}
 use Rattle.replay.proofs.request.Statement.{statement}
 use Rattle.replay.proofs.request.Tie as tie
 
+host-requires : tie.Need-host-requires
+host-requires c κs = search needs
+
+same-length : tie.Need-same-length
+same-length c = search needs
+
+same-length-2 : tie.Need-same-length-2
+same-length-2 c = search needs
+
+returns : tie.Need-returns
+returns c = search needs
+
+returns-2 : tie.Need-returns-2
+returns-2 c = search needs
+
+returns-3 : tie.Need-returns-3
+returns-3 c = search needs
+
 slice-aggregate-words : tie.Need-slice-aggregate-words
 slice-aggregate-words c = search needs
 
@@ -18,11 +36,11 @@ enum-known-m c = search needs
 enum-told : tie.Need-enum-told
 enum-told c = search needs
 
-same-length : tie.Need-same-length
-same-length c = search needs
+same-length-3 : tie.Need-same-length-3
+same-length-3 c = search needs
 
-returns : tie.Need-returns
-returns c = search needs
+returns-4 : tie.Need-returns-4
+returns-4 c = search needs
 
 slice-aggregate-longs : tie.Need-slice-aggregate-longs
 slice-aggregate-longs c = search needs
@@ -36,23 +54,23 @@ enum-known-n c = search needs
 enum-told-2 : tie.Need-enum-told-2
 enum-told-2 c = search needs
 
-same-length-2 : tie.Need-same-length-2
-same-length-2 c = search needs
-
-returns-2 : tie.Need-returns-2
-returns-2 c = search needs
-
-same-length-3 : tie.Need-same-length-3
-same-length-3 c = search needs
-
-returns-3 : tie.Need-returns-3
-returns-3 c = search needs
-
 same-length-4 : tie.Need-same-length-4
 same-length-4 c = search needs
 
-returns-4 : tie.Need-returns-4
-returns-4 c = search needs
+returns-5 : tie.Need-returns-5
+returns-5 c = search needs
+
+same-length-5 : tie.Need-same-length-5
+same-length-5 c = search needs
+
+returns-6 : tie.Need-returns-6
+returns-6 c = search needs
+
+same-length-6 : tie.Need-same-length-6
+same-length-6 c = search needs
+
+returns-7 : tie.Need-returns-7
+returns-7 c = search needs
 
 array-share-prefix-parents : tie.Need-array-share-prefix-parents
 array-share-prefix-parents c = search needs
@@ -69,40 +87,46 @@ slice-aggregate-with-species-2 c = sym (length-take-le _ _ (omega arith))
 with-species-requires : tie.Need-with-species-requires
 with-species-requires c κs = search needs
 
-same-length-5 : tie.Need-same-length-5
-same-length-5 c = search needs
+same-length-7 : tie.Need-same-length-7
+same-length-7 c = search needs
 
-same-length-6 : tie.Need-same-length-6
-same-length-6 c = search needs
+same-length-8 : tie.Need-same-length-8
+same-length-8 c = search needs
 
-returns-5 : tie.Need-returns-5
-returns-5 c = search needs
+returns-8 : tie.Need-returns-8
+returns-8 c = search needs
 
 pub request-spec : {M : Type 1} → statement M
 request-spec =
     tie.close
     (tie.spec
+    host-requires
+    same-length
+    same-length-2
+    returns
+    returns-2
+    returns-3
     slice-aggregate-words
     words-requires
     enum-known-m
     enum-told
-    same-length
-    returns
+    same-length-3
+    returns-4
     slice-aggregate-longs
     longs-requires
     enum-known-n
     enum-told-2
-    same-length-2
-    returns-2
-    same-length-3
-    returns-3
     same-length-4
-    returns-4
+    returns-5
+    same-length-5
+    returns-6
+    same-length-6
+    returns-7
     array-share-prefix-parents
     slice-aggregate-with-species
     array-share-prefix-taxa
     slice-aggregate-with-species-2
     with-species-requires
-    same-length-5
-    same-length-6
-    returns-5)
+    same-length-7
+    same-length-8
+    returns-8)

@@ -1,0 +1,417 @@
+"""The driver: compares `replay` and `history` with the reference.
+
+    python3 drive.py --replay CMD --history CMD --requests N --texts M --seed S
+
+It makes N requests and M texts from the seed, feeds the requests to the
+replay command in runs of at most about 900 KiB and each text to a run of the
+history command, and compares every printed number and every lent entry with
+what the reference answers.  It stops at the first few differences and prints
+each with the request, what was expected and what came.
+
+At the end it prints how often each refusal number occurred.  The exit status
+is 0 if everything agreed, 1 after a difference, and 2 if nothing differed but
+--all-numbers was given and some number from 1 to 20 never occurred.
+
+To make a request again alone: the same --seed, --requests 1 --first INDEX.
+"""
+
+import argparse
+import os
+import shlex
+import subprocess
+import sys
+import tempfile
+import time
+from collections import Counter, namedtuple
+from concurrent.futures import FIRST_COMPLETED, ProcessPoolExecutor, wait
+
+import generate
+import panheron_reference as reference
+import protocol
+
+MOST_RUN_BYTES = 900 * 1024
+REQUESTS_IN_TASK = 400
+LARGE_IN_TASK = 2
+TEXTS_IN_TASK = 20
+LONGEST_SHOWN = 3000
+ALL_NUMBERS = range(1, 21)
+
+# What one worker does at a time: a maker from MAKERS, and which of its things.
+Task = namedtuple("Task", "maker command seed first count timeout")
+
+# A difference: what was asked, what was expected and what came, as text.
+Difference = namedtuple("Difference", "title asked expected came")
+
+# What a program did: its standard output, and words on an unusual end.
+Outcome = namedtuple("Outcome", "output trouble")
+
+# A request with all that is known about it before the run.
+Prepared = namedtuple("Prepared", "index request text answer")
+
+
+class Report:
+    """What was found: how many answers agreed, how often each (refusal
+    number, source) occurred among them, and the differences."""
+
+    def __init__(self):
+        self.agreed = 0
+        self.occurred = Counter()
+        self.differences = []
+
+    def note(self, refusal, source):
+        """Notes an answer that agreed."""
+        self.agreed += 1
+        if refusal:
+            self.occurred[refusal, source] += 1
+
+
+# Running a program
+
+
+def trouble_of(finished):
+    """Words on a run that was killed, or nothing.  An ordinary exit status
+    is not judged, since no paper says what it should be."""
+    words = ""
+    if finished.returncode < 0 or finished.returncode >= 128:
+        words = "ended with status %d" % finished.returncode
+    complaint = finished.stderr.decode("latin-1").strip()
+    if words and complaint:
+        words += ": " + complaint[-1000:]
+    return words
+
+
+def run_program(command, data, timeout):
+    """Feeds the bytes to the command and waits for it."""
+    try:
+        finished = subprocess.run(
+            shlex.split(command), input=data, stdout=subprocess.PIPE,
+            stderr=subprocess.PIPE, timeout=timeout, check=False)
+    except subprocess.TimeoutExpired:
+        return Outcome(b"", "did not end within %d seconds" % timeout)
+    except OSError as error:
+        return Outcome(b"", "could not be run: %s" % error)
+    return Outcome(finished.stdout, trouble_of(finished))
+
+
+# Requests
+
+
+def prepared_requests(maker, seed, first, count):
+    """The requests of a task with their texts and expected answers."""
+    for index in range(first, first + count):
+        request = maker(seed, index)
+        yield Prepared(index, request, protocol.request_text(request),
+                       protocol.answer_to(request))
+
+
+def packed(prepared):
+    """Groups requests into runs of at most about 900 KiB."""
+    run, size = [], 0
+    for one in prepared:
+        if run and size + len(one.text) > MOST_RUN_BYTES:
+            yield run
+            run, size = [], 0
+        run.append(one)
+        size += len(one.text)
+    if run:
+        yield run
+
+
+def lines_of(output):
+    """The lines of an output; a last line without a line feed shows it."""
+    lines = output.decode("latin-1").split("\n")
+    last = lines.pop()
+    return lines + [last + "(no line feed)"] if last else lines
+
+
+def request_difference(title, one, expected, came, trouble):
+    """What is printed about a request whose answer differs."""
+    shown = [trouble] if trouble else []
+    return Difference("%s %d, code %d" % (title, one.index, one.request.code),
+                      one.text, "\n".join(expected),
+                      "\n".join(came + shown) or "(nothing)")
+
+
+def compare_run(title, run, outcome, report):
+    """Compares the lines of one run, up to its first difference."""
+    lines = lines_of(outcome.output)
+    at = 0
+    for one in run:
+        expected = one.answer.lines
+        came = lines[at:at + len(expected)]
+        if came != expected:
+            report.differences.append(request_difference(
+                title, one, expected, came, outcome.trouble))
+            return
+        at += len(expected)
+        report.note(one.answer.refusal, "code %d" % one.request.code)
+    if at != len(lines) or outcome.trouble:
+        report.differences.append(request_difference(
+            "after " + title, run[-1], ["(the end of the run)"],
+            lines[at:], outcome.trouble))
+
+
+def do_requests(title, maker, task):
+    """One task of requests."""
+    report = Report()
+    prepared = prepared_requests(maker, task.seed, task.first, task.count)
+    for run in packed(prepared):
+        data = "".join(one.text for one in run).encode("ascii")
+        outcome = run_program(task.command, data, task.timeout)
+        compare_run(title, run, outcome, report)
+        if report.differences:
+            break
+    return report
+
+
+# Texts
+
+
+def refusal_printed(output):
+    """The refusal number of a printed answer, 0 if there is none."""
+    return int(output.split()[1]) if output.startswith(b"refused ") else 0
+
+
+def text_difference(title, index, text, expected, outcome):
+    """What is printed about a text whose answer differs."""
+    came = outcome.output.decode("latin-1")
+    if outcome.trouble:
+        came += "\n" + outcome.trouble
+    return Difference("%s %d, as a Python literal" % (title, index),
+                      repr(text), expected.decode("latin-1"),
+                      came or "(nothing)")
+
+
+def compare_text(title, index, text, task, report):
+    """Runs the program on one text and compares what it prints."""
+    expected = reference.history_program(text)
+    outcome = run_program(task.command, text, task.timeout)
+    if outcome.output != expected or outcome.trouble:
+        report.differences.append(
+            text_difference(title, index, text, expected, outcome))
+        return
+    report.note(refusal_printed(expected), "history")
+
+
+def do_texts(title, maker, task):
+    """One task of texts."""
+    report = Report()
+    for index in range(task.first, task.first + task.count):
+        compare_text(title, index, maker(task.seed, index), task, report)
+        if report.differences:
+            break
+    return report
+
+
+# Tasks
+
+MAKERS = {
+    "request": (do_requests, generate.request, REQUESTS_IN_TASK),
+    "large request": (do_requests, generate.large_request, LARGE_IN_TASK),
+    "text": (do_texts, generate.text, TEXTS_IN_TASK),
+    "large text": (do_texts, generate.large_text, LARGE_IN_TASK),
+}
+
+
+def do_task(task):
+    """What a worker process does with one task."""
+    work, maker, _ = MAKERS[task.maker]
+    return task, work(task.maker, maker, task)
+
+
+def cut_into_tasks(maker, command, arguments, total):
+    """Tasks for so many things of one kind."""
+    size = MAKERS[maker][2]
+    end = arguments.first + total
+    return [Task(maker, command, arguments.seed, start,
+                 min(size, end - start), arguments.timeout)
+            for start in range(arguments.first, end, size)]
+
+
+def all_tasks(arguments):
+    """Everything that was asked for, the slow things first."""
+    wanted = []
+    if arguments.replay:
+        wanted += [("large request", arguments.replay, arguments.large),
+                   ("request", arguments.replay, arguments.requests)]
+    if arguments.history:
+        wanted += [("large text", arguments.history, arguments.large),
+                   ("text", arguments.history, arguments.texts)]
+    return [task for maker, command, total in wanted
+            for task in cut_into_tasks(maker, command, arguments, total)]
+
+
+# The whole
+
+
+class Totals:
+    """What all tasks together found."""
+
+    def __init__(self):
+        self.agreed = Counter()
+        self.occurred = Counter()
+        self.differences = []
+
+    def add(self, task, report):
+        self.agreed[task.maker] += report.agreed
+        self.occurred.update(report.occurred)
+        self.differences += report.differences
+
+    def missing_numbers(self):
+        seen = {number for number, _ in self.occurred}
+        return [number for number in ALL_NUMBERS if number not in seen]
+
+
+def show_progress(totals):
+    """Says how far it is, if someone is looking."""
+    if sys.stderr.isatty():
+        sys.stderr.write("\r%d agreed" % sum(totals.agreed.values()))
+        sys.stderr.flush()
+
+
+def run_all(tasks, arguments):
+    """Runs the tasks on a few workers, up to the first few differences."""
+    totals = Totals()
+    waiting = list(reversed(tasks))
+    with ProcessPoolExecutor(max_workers=arguments.workers) as workers:
+        running = set()
+        while waiting or running:
+            while (waiting and len(running) < 2 * arguments.workers
+                   and len(totals.differences) < arguments.differences):
+                running.add(workers.submit(do_task, waiting.pop()))
+            if not running:
+                break
+            done, running = wait(running, return_when=FIRST_COMPLETED)
+            for future in done:
+                totals.add(*future.result())
+            show_progress(totals)
+    if sys.stderr.isatty():
+        sys.stderr.write("\n")
+    return totals
+
+
+# What is printed
+
+
+def shortened(text, folder, name):
+    """The text, or where the whole of it was saved if it is long."""
+    if len(text) <= LONGEST_SHOWN:
+        return text.rstrip("\n")
+    path = os.path.join(folder, name)
+    with open(path, "w", encoding="latin-1") as file:
+        file.write(text)
+    return "%s ... (whole in %s)" % (text[:200].rstrip("\n"), path)
+
+
+def first_unequal(ones, others):
+    """The first index at which two lists differ."""
+    for index, (one, other) in enumerate(zip(ones, others)):
+        if one != other:
+            return index
+    return min(len(ones), len(others))
+
+
+def item(items, index):
+    return items[index] if index < len(items) else "nothing"
+
+
+def where_to_look(difference):
+    """The first line of the answer that differs, and the number in it."""
+    expected = difference.expected.split("\n")
+    came = difference.came.split("\n")
+    line = first_unequal(expected, came)
+    expected = item(expected, line).split(" ")
+    came = item(came, line).split(" ")
+    word = first_unequal(expected, came)
+    return "line %d, word %d: expected %s, came %s" % (
+        line + 1, word + 1, item(expected, word), item(came, word))
+
+
+def print_difference(number, difference, folder):
+    """Prints one difference, long parts saved in the folder."""
+    print("difference %d: %s" % (number, difference.title))
+    print("first difference: %s" % where_to_look(difference))
+    for part in ("asked", "expected", "came"):
+        name = "%d-%s.txt" % (number, part)
+        print("%s:" % part)
+        print(shortened(getattr(difference, part), folder, name))
+    print()
+
+
+def print_differences(differences, most):
+    """Prints the first differences."""
+    if differences:
+        folder = tempfile.mkdtemp(prefix="panheron-differences-")
+        for number, difference in enumerate(differences[:most], 1):
+            print_difference(number, difference, folder)
+
+
+def print_occurrences(totals):
+    """How often each refusal number occurred, and where."""
+    print("refusal  times  where")
+    for number in ALL_NUMBERS:
+        sources = {source: times
+                   for (one, source), times in sorted(totals.occurred.items())
+                   if one == number}
+        where = ", ".join("%s %d" % item for item in sources.items())
+        print("%7d %6d  %s" % (number, sum(sources.values()), where))
+
+
+def print_summary(totals, seconds):
+    """The last lines."""
+    agreed = ", ".join("%d %ss" % (totals.agreed[maker], maker)
+                       for maker in MAKERS)
+    print("agreed: %s, in %.0f seconds" % (agreed, seconds))
+    print("differences: %d" % len(totals.differences))
+
+
+def parse_arguments(given=None):
+    parser = argparse.ArgumentParser(
+        description=__doc__, formatter_class=argparse.RawTextHelpFormatter)
+    parser.add_argument("--replay", metavar="CMD",
+                        help="the command that answers requests")
+    parser.add_argument("--history", metavar="CMD",
+                        help="the command that answers texts")
+    parser.add_argument("--requests", type=int, default=5000, metavar="N")
+    parser.add_argument("--texts", type=int, default=300, metavar="M")
+    parser.add_argument("--large", type=int, default=0, metavar="K",
+                        help="so many requests and texts of 2,047 nodes more")
+    parser.add_argument("--seed", default="1", metavar="S")
+    parser.add_argument("--first", type=int, default=0, metavar="INDEX",
+                        help="the index to begin with")
+    parser.add_argument("--workers", type=int, default=2)
+    parser.add_argument("--differences", type=int, default=3, metavar="D",
+                        help="stop after about so many differences")
+    parser.add_argument("--timeout", type=int, default=600, metavar="SECONDS",
+                        help="the longest that one run may take")
+    parser.add_argument("--all-numbers", action="store_true",
+                        help="fail if a number from 1 to 20 never occurred")
+    arguments = parser.parse_args(given)
+    if not arguments.replay and not arguments.history:
+        parser.error("give --replay, --history or both")
+    return arguments
+
+
+def exit_status(totals, arguments):
+    """0 if all agreed, 1 after a difference, 2 if a number is missing."""
+    if totals.differences:
+        return 1
+    missing = totals.missing_numbers()
+    if arguments.all_numbers and missing:
+        print("never occurred: %s" % ", ".join(map(str, missing)))
+        return 2
+    return 0
+
+
+def main(given=None):
+    arguments = parse_arguments(given)
+    start = time.time()
+    totals = run_all(all_tasks(arguments), arguments)
+    print_differences(totals.differences, arguments.differences)
+    print_occurrences(totals)
+    print_summary(totals, time.time() - start)
+    return exit_status(totals, arguments)
+
+
+if __name__ == "__main__":
+    sys.exit(main())

@@ -1,0 +1,246 @@
+"""Tests of the generator and the driver, with the stand-in for the programs.
+
+They make sure that each kind of fault really is one, that every refusal number
+is drawn often, that requests survive being sent, and that the driver finds an
+answer that was spoiled.
+
+    python3 test_driver.py
+"""
+
+import contextlib
+import io
+import os
+import random
+import shlex
+import sys
+import unittest
+from collections import Counter
+
+import drive
+import generate
+import generate_histories as histories
+import generate_images as images
+import generate_trees as trees
+import panheron_reference as reference
+import protocol
+from panheron_reference import Refusal
+
+FAKE = "%s %s" % (shlex.quote(sys.executable), shlex.quote(os.path.join(
+    os.path.dirname(os.path.abspath(__file__)), "fake_replay.py")))
+
+
+def number_of(call, *values):
+    """The number that a call is refused with, 0 if it isn't."""
+    try:
+        call(*values)
+    except Refusal as refusal:
+        return refusal.number
+    return 0
+
+
+def case_number(case):
+    """The number that an image is refused with on its rack."""
+    return number_of(reference.load_image, *case.rack, case.image,
+                     *[[0] * 2047 for _ in range(4)])
+
+
+class Faults(unittest.TestCase):
+    """Each kind of fault gives its own number."""
+
+    def check(self, draw, number, least_share):
+        """Draws many numbers: all 0 or the one, and the one often enough."""
+        rng = random.Random(number)
+        drawn = Counter(draw(rng) for _ in range(150))
+        self.assertLessEqual(set(drawn), {0, number}, draw)
+        self.assertGreaterEqual(drawn[number], 150 * least_share, draw)
+
+    def test_sound_trees(self):
+        rng = random.Random(0)
+        for _ in range(300):
+            species, gene = trees.sound_pair(rng)
+            self.assertEqual(
+                number_of(reference.judge_pair, *species, *gene), 0)
+
+    def test_species_faults(self):
+        for number, fault in trees.SPECIES_FAULTS.items():
+            def draw(rng, fault=fault):
+                species = trees.species_tree(rng, rng.randint(3, 13))
+                fault(rng, species)
+                return number_of(reference.judge_species, *species)
+            self.check(draw, number, 0.7)
+
+    def test_gene_faults(self):
+        for number, fault in trees.GENE_FAULTS.items():
+            def draw(rng, fault=fault):
+                species = trees.species_tree(rng, rng.randint(3, 13))
+                gene = trees.scattered_gene(rng, species, rng.randint(3, 13))
+                fault(rng, gene)
+                return number_of(reference.judge_pair, *species, *gene)
+            self.check(draw, number, 0.5)
+
+    def test_legal_histories(self):
+        rng = random.Random(1)
+        higher = 0
+        for _ in range(500):
+            pair = images.judged(trees.sound_pair(rng))
+            history = histories.legal_history(rng, *pair)
+            self.assertEqual(
+                number_of(reference.judge_history, *pair, *history), 0)
+            higher += history != reference.least_history_of(*pair)
+        self.assertGreater(higher, 150)
+
+    def test_illegal_histories(self):
+        for number, faults in histories.FAULTS.items():
+            for fault in faults:
+                drawn = Counter()
+                rng = random.Random(number)
+                for _ in range(200):
+                    pair = images.judged(trees.sound_pair(rng))
+                    history = histories.legal_history(rng, *pair)
+                    fault(rng, *pair, history)
+                    drawn[number_of(
+                        reference.judge_history, *pair, *history)] += 1
+                self.assertGreater(drawn[number], 40, fault)
+
+    def test_damage(self):
+        expected = {
+            images.one_byte: {14}, images.some_bytes: {0, 14},
+            images.truncated: {13, 17}, images.over_long: {13, 15},
+            images.over_many_blocks: {13}, images.sealed_tail: {17},
+            images.exchanged_blocks: {0, 15},
+            images.renumbered_block: {0, 15},
+            images.number_and_check: {14}, images.zero_image: {15, 16},
+            images.other_form: {16}, images.other_filling: {17, 0},
+            images.exchanged_taxa: {0, 18}, images.renamed_taxon: {0, 5, 18},
+            images.other_parent: {0, 18}, images.other_species_taxon: {18},
+            images.parent_and_taxon: {18}, images.other_rack: {0, 18},
+            images.unsound_rack: {0, 1, 2, 3, 4, 5, 18},
+        }
+        rng = random.Random(2)
+        for damage, numbers in expected.items():
+            drawn = {case_number(damage(rng, images.good(rng)))
+                     for _ in range(60)}
+            self.assertLessEqual(drawn, numbers, damage)
+            self.assertTrue(drawn - {0}, damage)
+
+    def test_sealed_faults(self):
+        rng = random.Random(3)
+        drawn = {case_number(images.unsound_gene(rng)) for _ in range(100)}
+        self.assertLessEqual({2, 3, 4, 6}, drawn)
+        drawn = {case_number(images.unlawful_history(rng)) for _ in range(100)}
+        self.assertLessEqual({8, 9, 10, 11}, drawn)
+
+
+class Requests(unittest.TestCase):
+    """What is drawn and what is sent."""
+
+    def test_every_number_occurs_often(self):
+        drawn = Counter(protocol.answer_to(generate.request(5, index)).refusal
+                        for index in range(3000))
+        for number in range(20):
+            self.assertGreater(drawn[number], 20, number)
+
+    def test_twenty_occurs_often(self):
+        drawn = Counter(drive.refusal_printed(reference.history_program(
+            generate.text(5, index))) for index in range(300))
+        self.assertGreater(drawn[0], 40)
+        self.assertGreater(drawn[20], 60)
+        self.assertGreater(drawn[1], 15)
+
+    def test_same_seed_same_request(self):
+        for index in range(100):
+            self.assertEqual(generate.request("a", index),
+                             generate.request("a", index))
+            self.assertEqual(generate.text("a", index),
+                             generate.text("a", index))
+        self.assertNotEqual([generate.request("a", i) for i in range(5)],
+                            [generate.request("b", i) for i in range(5)])
+
+    def test_sending(self):
+        sent = [generate.request(6, index) for index in range(300)]
+        text = "".join(map(protocol.request_text, sent))
+        self.assertEqual(list(protocol.requests_in(text)), sent)
+
+    def test_answering_leaves_the_request(self):
+        for index in range(100):
+            request = generate.request(7, index)
+            protocol.answer_to(request)
+            self.assertEqual(request, generate.request(7, index))
+
+    def test_large_requests_are_within_limits(self):
+        for index in range(14):
+            request = generate.large_request(8, index)
+            text = protocol.request_text(request)
+            self.assertLess(len(text), drive.MOST_RUN_BYTES)
+            self.assertEqual(list(protocol.requests_in(text)), [request])
+
+    def test_lines(self):
+        small = [[65535], [7]]
+        self.assertEqual(
+            protocol.answer_to(protocol.Request(1, small)).lines, ["ok"])
+        self.assertEqual(
+            protocol.answer_to(protocol.Request(
+                3, small * 2 + [[9, 9], [], 1, 1])).lines,
+            ["refused 7 0 0", "9 9", ""])
+        self.assertEqual(
+            protocol.answer_to(protocol.Request(8, [[], [], []])),
+            (1, ["ok 1 0 0"]))
+
+    def test_bad_requests(self):
+        for text in ("0", "9", "x", "1", "1 1 65536 1 7", "1 1 65535 1",
+                     "1 2101", "7\t", "5 1 65535 1 7 1 65535 1 7 65536"):
+            with self.assertRaises(protocol.BadRequest, msg=text):
+                list(protocol.requests_in(text))
+
+
+class Driving(unittest.TestCase):
+    """The driver with the stand-in."""
+
+    def drive(self, *arguments):
+        """The exit status and what was printed."""
+        out = io.StringIO()
+        with contextlib.redirect_stdout(out):
+            status = drive.main(list(arguments))
+        return status, out.getvalue()
+
+    def test_agreement(self):
+        status, printed = self.drive(
+            "--replay", FAKE, "--history", FAKE + " --history",
+            "--requests", "1500", "--texts", "24", "--large", "1",
+            "--all-numbers")
+        self.assertEqual(status, 0, printed)
+        self.assertIn("agreed: 1500 requests, 1 large requests, 24 texts, "
+                      "1 large texts", printed)
+
+    def test_spoiled_answers(self):
+        status, printed = self.drive(
+            "--replay", FAKE + " --spoil 150", "--requests", "400")
+        self.assertEqual(status, 1)
+        self.assertIn("difference 1: request 149, code", printed)
+
+    def test_spoiled_texts(self):
+        status, printed = self.drive(
+            "--history", FAKE + " --history --spoil 1", "--texts", "2")
+        self.assertEqual(status, 1)
+        self.assertIn("difference 1: text 0", printed)
+
+    def test_missing_numbers(self):
+        status, printed = self.drive(
+            "--replay", FAKE, "--requests", "5", "--all-numbers")
+        self.assertEqual(status, 2)
+        self.assertIn("never occurred: ", printed)
+
+    def test_program_that_prints_nothing(self):
+        status, printed = self.drive("--replay", "true", "--requests", "5")
+        self.assertEqual(status, 1)
+        self.assertIn("difference 1: request 0, code", printed)
+
+    def test_program_that_is_not_there(self):
+        status, printed = self.drive(
+            "--replay", "/no/such/program", "--requests", "5")
+        self.assertEqual(status, 1)
+        self.assertIn("could not be run", printed)
+
+
+if __name__ == "__main__":
+    unittest.main()
