@@ -1,0 +1,369 @@
+/* Runs a call on an image a given number of times, so that its instructions
+ * can be counted from outside, and measures the stack that the calls need.
+ *
+ *     bench CALL SHAPE P Q TIMES   runs one of the calls listed below
+ *     bench stack SHAPE P Q        prints, for each call, its name and the
+ *                                  bytes of stack that it wrote to
+ *
+ * SHAPE is balanced, random or caterpillar, for both trees; P and Q are their
+ * numbers of nodes.  The image holds the least history.  The same words always
+ * make the same image.  Exit status 1: a call refused the image.
+ */
+#include <stdbool.h>
+#include <stdint.h>
+#include <stdio.h>
+#include <stdlib.h>
+#include <string.h>
+#include <ucontext.h>
+
+#include "fast.h"
+#include "panheron.h"
+
+enum {
+    MOST_NODES = 2047,
+    MOST_TAXON = 3000000,
+    BLOCK_BYTES = 512,
+    CHECKED_BYTES = 508,
+    CONTENT_WORDS = 253,
+    MOST_BLOCKS = 65,
+    STACK_BYTES = 1 << 20,
+    PAINT = 0xA5
+};
+
+struct tree {
+    size_t count;
+    uint16_t parents[MOST_NODES];
+    uint32_t taxa[MOST_NODES];
+};
+
+/* What the calls are given. */
+static uint8_t image[MOST_BLOCKS * BLOCK_BYTES];
+static uint8_t parents_bytes[2 * MOST_NODES];
+static uint8_t taxa_bytes[4 * MOST_NODES];
+static size_t image_len, parents_len, taxa_len;
+
+static void stop(const char *why)
+{
+    fprintf(stderr, "bench: %s\n", why);
+    exit(2);
+}
+
+/* Random numbers: Marsaglia's xorshift with shifts 13, 17 and 5. */
+static uint32_t random_below(uint32_t limit)
+{
+    static uint32_t state = 2463534242u;
+    state ^= state << 13;
+    state ^= state >> 17;
+    state ^= state << 5;
+    return state % limit;
+}
+
+/* Trees */
+
+static void make_balanced(struct tree *t)
+{
+    for (size_t i = 1; i < t->count; i++)
+        t->parents[i] = (uint16_t)((i - 1) / 2);
+}
+
+/* Every inner node has a leaf and the next inner node. */
+static void make_caterpillar(struct tree *t)
+{
+    for (size_t i = 1; i < t->count; i++)
+        t->parents[i] = (uint16_t)(i % 2 == 1 ? i - 1 : i - 2);
+}
+
+/* A random leaf is split again and again. */
+static void make_random(struct tree *t)
+{
+    uint16_t leaves[MOST_NODES] = {0};
+    uint32_t count = 1;
+    for (size_t i = 1; i < t->count; i += 2) {
+        uint32_t at = random_below(count);
+        t->parents[i] = t->parents[i + 1] = leaves[at];
+        leaves[at] = (uint16_t)i;
+        leaves[count++] = (uint16_t)(i + 1);
+    }
+}
+
+static void make_shape(struct tree *t, const char *shape, size_t count)
+{
+    t->count = count;
+    t->parents[0] = 65535;
+    if (strcmp(shape, "balanced") == 0)
+        make_balanced(t);
+    else if (strcmp(shape, "random") == 0)
+        make_random(t);
+    else if (strcmp(shape, "caterpillar") == 0)
+        make_caterpillar(t);
+    else
+        stop("the shape is balanced, random or caterpillar");
+}
+
+static void mark_leaves(const struct tree *t, bool *leaf)
+{
+    for (size_t i = 0; i < t->count; i++)
+        leaf[i] = true;
+    for (size_t i = 1; i < t->count; i++)
+        leaf[t->parents[i]] = false;
+}
+
+/* Different numbers of up to seven digits, as taxonomies give them. */
+static void name_species(struct tree *t)
+{
+    static bool used[MOST_TAXON + 1];
+    bool leaf[MOST_NODES];
+    mark_leaves(t, leaf);
+    for (size_t i = 0; i < t->count; i++) {
+        uint32_t taxon = 0;
+        while (leaf[i] && (taxon == 0 || used[taxon]))
+            taxon = 1 + random_below(MOST_TAXON);
+        used[taxon] = true;
+        t->taxa[i] = taxon;
+    }
+}
+
+static void name_genes(struct tree *genes, const struct tree *species)
+{
+    bool leaf[MOST_NODES];
+    mark_leaves(genes, leaf);
+    for (size_t i = 0; i < genes->count; i++) {
+        genes->taxa[i] = 0;
+        while (leaf[i] && genes->taxa[i] == 0)
+            genes->taxa[i] =
+                species->taxa[random_below((uint32_t)species->count)];
+    }
+}
+
+/* The least history */
+
+static uint16_t leaf_of(const struct tree *species, uint32_t taxon)
+{
+    uint16_t i = 0;
+    while (species->taxa[i] != taxon)
+        i++;
+    return i;
+}
+
+static uint16_t common_ancestor(const struct tree *species, uint16_t a,
+                                uint16_t b)
+{
+    while (a != b) {
+        if (a > b)
+            a = species->parents[a];
+        else
+            b = species->parents[b];
+    }
+    return a;
+}
+
+static void make_history(const struct tree *species, const struct tree *genes,
+                         uint16_t *places, uint16_t *labels)
+{
+    bool placed[MOST_NODES] = {false};
+    for (size_t i = 0; i < genes->count; i++) {
+        labels[i] = 0;
+        if (genes->taxa[i] != 0)
+            places[i] = leaf_of(species, genes->taxa[i]);
+    }
+    for (size_t i = genes->count - 1; i > 0; i--) {
+        uint16_t above = genes->parents[i];
+        if (placed[above])
+            places[above] = common_ancestor(species, places[above], places[i]);
+        else
+            places[above] = places[i];
+        placed[above] = true;
+    }
+    for (size_t i = 1; i < genes->count; i++) {
+        uint16_t above = genes->parents[i];
+        if (places[i] == places[above])
+            labels[above] = 2;
+        else if (labels[above] == 0)
+            labels[above] = 1;
+    }
+}
+
+/* The image */
+
+static void put_word(uint8_t *bytes, uint32_t word)
+{
+    bytes[0] = (uint8_t)(word & 255);
+    bytes[1] = (uint8_t)(word >> 8 & 255);
+}
+
+/* Puts the next word of the image. */
+static void add_word(size_t *words, uint32_t word)
+{
+    size_t block = *words / CONTENT_WORDS, at = *words % CONTENT_WORDS;
+    put_word(image + block * BLOCK_BYTES + 2 + 2 * at, word);
+    (*words)++;
+}
+
+static void add_tree(size_t *words, const struct tree *t)
+{
+    for (size_t i = 0; i < t->count; i++)
+        add_word(words, t->parents[i]);
+    for (size_t i = 0; i < t->count; i++) {
+        add_word(words, t->taxa[i] & 65535);
+        add_word(words, t->taxa[i] >> 16);
+    }
+}
+
+static void seal(uint8_t *block, size_t number)
+{
+    uint32_t a = 0, b = 0;
+    put_word(block, (uint32_t)number);
+    for (size_t i = 0; i < CHECKED_BYTES; i++) {
+        a += block[i];
+        b += a;
+    }
+    put_word(block + 508, a);
+    put_word(block + 510, b);
+}
+
+static void make_image(const struct tree *species, const struct tree *genes)
+{
+    uint16_t places[MOST_NODES], labels[MOST_NODES];
+    size_t words = 0;
+    make_history(species, genes, places, labels);
+    add_word(&words, 1);
+    add_word(&words, (uint32_t)species->count);
+    add_word(&words, (uint32_t)genes->count);
+    add_tree(&words, species);
+    add_tree(&words, genes);
+    for (size_t i = 0; i < genes->count; i++)
+        add_word(&words, places[i]);
+    for (size_t i = 0; i < genes->count; i++)
+        add_word(&words, labels[i]);
+    for (size_t k = 0; k * CONTENT_WORDS < words; k++) {
+        seal(image + k * BLOCK_BYTES, k);
+        image_len += BLOCK_BYTES;
+    }
+}
+
+static void make_rack(const struct tree *species)
+{
+    for (size_t i = 0; i < species->count; i++) {
+        put_word(parents_bytes + 2 * i, species->parents[i]);
+        put_word(taxa_bytes + 4 * i, species->taxa[i] & 65535);
+        put_word(taxa_bytes + 4 * i + 2, species->taxa[i] >> 16);
+    }
+    parents_len = 2 * species->count;
+    taxa_len = 4 * species->count;
+}
+
+static size_t count_in(const char *text)
+{
+    unsigned long count = strtoul(text, NULL, 10);
+    if (count == 0 || count > MOST_NODES || count % 2 == 0)
+        stop("P and Q are odd numbers from 1 to 2047");
+    return count;
+}
+
+static void make_inputs(char **words)
+{
+    static struct tree species, genes;
+    make_shape(&species, words[0], count_in(words[1]));
+    make_shape(&genes, words[0], count_in(words[2]));
+    name_species(&species);
+    name_genes(&genes, &species);
+    make_rack(&species);
+    make_image(&species, &genes);
+}
+
+/* The calls */
+
+typedef uint32_t call(const uint8_t *, size_t, const uint8_t *, size_t,
+                      const uint8_t *, size_t);
+
+static const struct {
+    const char *name;
+    call *run;
+} calls[] = {
+    {"panheron_refusal", panheron_refusal},
+    {"panheron_tree", panheron_tree},
+    {"panheron_place", panheron_place},
+    {"panheron_duplications", panheron_duplications},
+    {"panheron_losses", panheron_losses},
+    {"fast_refusal", fast_refusal},
+    {"fast_refusal_bytewise", fast_refusal_bytewise},
+};
+enum { CALLS = sizeof calls / sizeof calls[0] };
+
+static uint32_t ask(call *run)
+{
+    return run(image, image_len, parents_bytes, parents_len, taxa_bytes,
+               taxa_len);
+}
+
+static int run_many(const char *name, const char *times)
+{
+    unsigned long left = strtoul(times, NULL, 10);
+    for (size_t i = 0; i < CALLS; i++) {
+        if (strcmp(name, calls[i].name) != 0)
+            continue;
+        while (left-- > 0)
+            if (ask(calls[i].run) != 0)
+                return 1;
+        return 0;
+    }
+    stop("there is no such call");
+    return 2;
+}
+
+/* Stack: the call runs on a stack of its own that was painted before.  What
+ * running nothing leaves there is taken off. */
+
+static uint32_t nothing(const uint8_t *i, size_t i_len, const uint8_t *p,
+                        size_t p_len, const uint8_t *t, size_t t_len)
+{
+    (void)i, (void)i_len, (void)p, (void)p_len, (void)t, (void)t_len;
+    return 0;
+}
+
+static ucontext_t outside, inside;
+static call *measured;
+
+static void run_inside(void)
+{
+    ask(measured);
+}
+
+static size_t stack_of(call *run)
+{
+    static uint8_t stack[STACK_BYTES];
+    size_t untouched = 0;
+    memset(stack, PAINT, sizeof stack);
+    measured = run;
+    if (getcontext(&inside) != 0)
+        stop("no context");
+    inside.uc_stack.ss_sp = stack;
+    inside.uc_stack.ss_size = sizeof stack;
+    inside.uc_link = &outside;
+    makecontext(&inside, run_inside, 0);
+    if (swapcontext(&outside, &inside) != 0)
+        stop("no context");
+    while (untouched < sizeof stack && stack[untouched] == PAINT)
+        untouched++;
+    return sizeof stack - untouched;
+}
+
+static int print_stacks(void)
+{
+    size_t base = stack_of(nothing);
+    for (size_t i = 0; i < CALLS; i++)
+        printf("%s %zu\n", calls[i].name, stack_of(calls[i].run) - base);
+    return 0;
+}
+
+int main(int argc, char **argv)
+{
+    if (argc == 5 && strcmp(argv[1], "stack") == 0) {
+        make_inputs(argv + 2);
+        return print_stacks();
+    }
+    if (argc != 6)
+        stop("usage: bench CALL SHAPE P Q TIMES, or bench stack SHAPE P Q");
+    make_inputs(argv + 2);
+    return run_many(argv[1], argv[5]);
+}

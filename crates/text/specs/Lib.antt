@@ -1,0 +1,9 @@
+pub mod Numbers
+pub mod Words
+pub mod Reading
+pub mod Printing
+pub mod Example
+pub mod Cursor
+pub mod Readers
+pub mod Putting
+pub mod Written
