@@ -96,4 +96,5 @@ answer-rest-spec =
     same-length-9
     same-length-10
     returns-2)
+
 -- x

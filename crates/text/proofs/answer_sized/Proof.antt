@@ -52,4 +52,5 @@ answer-sized-spec =
     answer-rest-requires
     same-length
     returns)
+
 -- x

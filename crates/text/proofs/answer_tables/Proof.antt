@@ -109,4 +109,5 @@ answer-tables-spec =
     returns
     same-length-2
     returns-2)
+
 -- x

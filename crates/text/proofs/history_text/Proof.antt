@@ -52,4 +52,5 @@ history-text-spec =
     returns
     same-length-2
     returns-2)
+
 -- x

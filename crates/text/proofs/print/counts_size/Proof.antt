@@ -70,4 +70,5 @@ counts-size-spec =
     add-result-4
     add-result-5
     returns)
+
 -- x

@@ -35,4 +35,5 @@ returns c =
 pub digit-count-spec : {M : Type 1} → statement M
 digit-count-spec =
     tie.close (tie.spec Inv-loop μ-loop loop-holds add-count loop-less loop-again returns)
+
 -- x

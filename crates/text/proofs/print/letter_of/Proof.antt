@@ -19,4 +19,5 @@ returns-3 c = rw (ne-eqb (c .before .before .args .label) 0 (c .before .if1 .lef
 
 pub letter-of-spec : {M : Type 1} → statement M
 letter-of-spec = tie.close (tie.spec returns returns-2 returns-3)
+
 -- x

@@ -88,4 +88,5 @@ lines-size-spec =
     loop-less
     loop-again
     returns)
+
 -- x

@@ -119,4 +119,5 @@ put-counts-spec =
     put-number-requires-5
     same-length
     returns)
+
 -- x

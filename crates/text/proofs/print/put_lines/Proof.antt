@@ -81,4 +81,5 @@ put-lines-spec =
     loop-again
     same-length
     returns)
+
 -- x

@@ -82,4 +82,5 @@ put-node-spec =
     add-result
     same-length
     returns)
+
 -- x

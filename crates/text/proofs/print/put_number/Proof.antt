@@ -100,4 +100,5 @@ put-number-spec =
     add-result
     same-length
     returns)
+
 -- x

@@ -52,4 +52,5 @@ put-refused-spec =
     slice-write-out-8
     same-length
     returns)
+
 -- x

@@ -68,4 +68,5 @@ write-history-spec =
     put-counts-requires
     same-length
     returns-2)
+
 -- x

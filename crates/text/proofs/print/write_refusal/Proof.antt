@@ -124,4 +124,5 @@ write-refusal-spec =
     put-number-requires-3
     same-length
     returns-2)
+
 -- x
