@@ -12,7 +12,7 @@ use offers::Offered;
 use trees::GeneNode;
 
 // Where to go on, and how much the buffer holds.
-pub enum Step {
+pub(crate) enum Step {
     Next(Cursor, usize),
     Bad(usize),
 }
@@ -28,7 +28,7 @@ fn show_judged(buffer: &mut [u8], used: usize, answer: Judged) -> usize {
 }
 
 // Code 1.
-pub fn species(
+pub(crate) fn species(
     parents: &[u16],
     taxa: &[u32],
     next: Cursor,
@@ -40,7 +40,7 @@ pub fn species(
 }
 
 // Code 2.
-pub fn genes(
+pub(crate) fn genes(
     species_parents: &[u16],
     species_taxa: &[u32],
     gene_parents: &[u16],
@@ -117,7 +117,7 @@ fn weights(source: &mut [u8], from: Cursor) -> TwoWeights {
 }
 
 // Code 3.
-pub fn history(
+pub(crate) fn history(
     source: &mut [u8],
     from: Cursor,
     species_parents: &[u16],
@@ -176,7 +176,7 @@ fn show_offered(buffer: &mut [u8], used: usize, answer: Offered) -> usize {
 }
 
 // Code 4.
-pub fn offer(
+pub(crate) fn offer(
     source: &mut [u8],
     from: Cursor,
     species_parents: &[u16],
@@ -235,7 +235,7 @@ fn show_dating(buffer: &mut [u8], used: usize, dating: Dating) -> usize {
 }
 
 // Code 5.
-pub fn date(
+pub(crate) fn date(
     source: &mut [u8],
     from: Cursor,
     species_parents: &[u16],

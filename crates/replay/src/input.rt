@@ -4,13 +4,13 @@ ghost use Prim.Native.Nat.{_<_};
 use libc::STDIN_FILENO;
 
 // The bytes from `at` up to `end` of the buffer are still to be looked at.
-pub struct Cursor {
+pub(crate) struct Cursor {
     pub at: usize,
     pub end: usize,
 }
 
 // What comes next.
-pub enum Item {
+pub(crate) enum Item {
     // A number, and where to go on behind it.
     Number(u64, Cursor),
     // Only blanks are left.
@@ -20,7 +20,7 @@ pub enum Item {
 }
 
 // What the next byte is.
-pub enum Byte {
+pub(crate) enum Byte {
     At(u8, Cursor),
     None,
 }
@@ -111,7 +111,7 @@ fn digits(buffer: &mut [u8], from: Cursor) -> Item {
 }
 
 // The next number.
-pub fn number(buffer: &mut [u8], from: Cursor) -> Item {
+pub(crate) fn number(buffer: &mut [u8], from: Cursor) -> Item {
     let Byte::At(_, here) = skip(buffer, from) else {
         return Item::End;
     };
@@ -119,7 +119,7 @@ pub fn number(buffer: &mut [u8], from: Cursor) -> Item {
 }
 
 // A number of at most `most`, or Bad. The end is Bad too.
-pub fn small(buffer: &mut [u8], from: Cursor, most: u64) -> Item {
+pub(crate) fn small(buffer: &mut [u8], from: Cursor, most: u64) -> Item {
     let item = number(buffer, from);
     match item {
         Item::Number(value, next) => {
@@ -134,7 +134,7 @@ pub fn small(buffer: &mut [u8], from: Cursor, most: u64) -> Item {
 }
 
 // How many entries a table has, and where to go on behind it.
-pub enum Table {
+pub(crate) enum Table {
     Read(usize, Cursor),
     Bad,
 }
@@ -156,7 +156,7 @@ fn length(buffer: &mut [u8], from: Cursor, room: usize) -> Table {
 }
 
 // A table of 16-bit entries into the first places of `out`.
-pub fn words(buffer: &mut [u8], from: Cursor, out: &mut [u16]) -> Table {
+pub(crate) fn words(buffer: &mut [u8], from: Cursor, out: &mut [u16]) -> Table {
     let Table::Read(n, first) = length(buffer, from, out.len()) else {
         return Table::Bad;
     };
@@ -177,7 +177,7 @@ pub fn words(buffer: &mut [u8], from: Cursor, out: &mut [u16]) -> Table {
 }
 
 // A table of 32-bit entries into the first places of `out`.
-pub fn longs(buffer: &mut [u8], from: Cursor, out: &mut [u32]) -> Table {
+pub(crate) fn longs(buffer: &mut [u8], from: Cursor, out: &mut [u32]) -> Table {
     let Table::Read(n, first) = length(buffer, from, out.len()) else {
         return Table::Bad;
     };
@@ -198,7 +198,7 @@ pub fn longs(buffer: &mut [u8], from: Cursor, out: &mut [u32]) -> Table {
 }
 
 // A table of bytes into the first places of `out`.
-pub fn bytes(buffer: &mut [u8], from: Cursor, out: &mut [u8]) -> Table {
+pub(crate) fn bytes(buffer: &mut [u8], from: Cursor, out: &mut [u8]) -> Table {
     let Table::Read(n, first) = length(buffer, from, out.len()) else {
         return Table::Bad;
     };

@@ -3,14 +3,14 @@ use libc::STDOUT_FILENO;
 use trees::Refusal;
 
 // Writes what the buffer holds.
-pub fn flush(buffer: &[u8], used: usize) {
+pub(crate) fn flush(buffer: &[u8], used: usize) {
     if used <= buffer.len() {
         io::write_all(STDOUT_FILENO, &buffer[..used]);
     }
 }
 
 // One byte more; the answer is how many the buffer holds now.
-pub fn put(buffer: &mut [u8], used: usize, b: u8) -> usize {
+pub(crate) fn put(buffer: &mut [u8], used: usize, b: u8) -> usize {
     if used < buffer.len() {
         buffer[used] = b;
         return used + 1;
@@ -23,7 +23,7 @@ pub fn put(buffer: &mut [u8], used: usize, b: u8) -> usize {
     1
 }
 
-pub fn put_text(buffer: &mut [u8], used: usize, text: &[u8]) -> usize {
+pub(crate) fn put_text(buffer: &mut [u8], used: usize, text: &[u8]) -> usize {
     let mut held = used;
     let mut i: usize = 0;
     while i < text.len() {
@@ -33,23 +33,23 @@ pub fn put_text(buffer: &mut [u8], used: usize, text: &[u8]) -> usize {
     held
 }
 
-pub fn put_number(buffer: &mut [u8], used: usize, n: u64) -> usize {
+pub(crate) fn put_number(buffer: &mut [u8], used: usize, n: u64) -> usize {
     let mut digits = [0u8; 20];
     let k = io::decimal(n, &mut digits);
     put_text(buffer, used, &digits[..k])
 }
 
 // A space, and a number.
-pub fn put_next(buffer: &mut [u8], used: usize, n: u64) -> usize {
+pub(crate) fn put_next(buffer: &mut [u8], used: usize, n: u64) -> usize {
     let held = put(buffer, used, 32);
     put_number(buffer, held, n)
 }
 
-pub fn end_line(buffer: &mut [u8], used: usize) -> usize {
+pub(crate) fn end_line(buffer: &mut [u8], used: usize) -> usize {
     put(buffer, used, 10)
 }
 
-pub fn put_refusal(buffer: &mut [u8], used: usize, r: Refusal) -> usize {
+pub(crate) fn put_refusal(buffer: &mut [u8], used: usize, r: Refusal) -> usize {
     let number = r.number as u64;
     let tree = r.tree as u64;
     let place = r.place as u64;
@@ -81,7 +81,7 @@ fn wide32(x: u32) -> u64 {
 }
 
 // A line with all entries of a table.
-pub fn put_words(buffer: &mut [u8], used: usize, table: &[u16]) -> usize {
+pub(crate) fn put_words(buffer: &mut [u8], used: usize, table: &[u16]) -> usize {
     let mut held = used;
     let mut i: usize = 0;
     while i < table.len() {
@@ -91,7 +91,7 @@ pub fn put_words(buffer: &mut [u8], used: usize, table: &[u16]) -> usize {
     end_line(buffer, held)
 }
 
-pub fn put_longs(buffer: &mut [u8], used: usize, table: &[u32]) -> usize {
+pub(crate) fn put_longs(buffer: &mut [u8], used: usize, table: &[u32]) -> usize {
     let mut held = used;
     let mut i: usize = 0;
     while i < table.len() {
@@ -101,7 +101,7 @@ pub fn put_longs(buffer: &mut [u8], used: usize, table: &[u32]) -> usize {
     end_line(buffer, held)
 }
 
-pub fn put_bytes(buffer: &mut [u8], used: usize, table: &[u8]) -> usize {
+pub(crate) fn put_bytes(buffer: &mut [u8], used: usize, table: &[u8]) -> usize {
     let mut held = used;
     let mut i: usize = 0;
     while i < table.len() {

@@ -79,7 +79,7 @@ fn write_to(
 }
 
 // Code 6.
-pub fn written(
+pub(crate) fn written(
     source: &mut [u8],
     from: Cursor,
     species_parents: &[u16],
@@ -240,7 +240,7 @@ fn load_genes(
 }
 
 // Code 7.
-pub fn loaded(
+pub(crate) fn loaded(
     source: &mut [u8],
     from: Cursor,
     species_parents: &[u16],
@@ -304,7 +304,7 @@ fn host_tables(
 }
 
 // Code 8.
-pub fn host(source: &mut [u8], from: Cursor, buffer: &mut [u8], used: usize) -> Step {
+pub(crate) fn host(source: &mut [u8], from: Cursor, buffer: &mut [u8], used: usize) -> Step {
     let mut image = [0u8; 37888];
     let Table::Read(n, behind) = input::bytes(source, from, &mut image) else {
         return Step::Bad(used);
