@@ -1,15 +1,15 @@
 -- Blocks: what was written is read back, and what passes both tests is as it was written. Assumes nothing.
-use Prim.Native.Nat.{ℕ, zero, suc, _+_, _-_, _*_, _/_, _%_, _<_, _≤_}
+use Prim.Native.Nat.{ℕ, zero, suc, _+_, _-_, _*_, _<_, _≤_}
 use native.Mathlib.Omega.{arith}
 use native.Mathlib.Decide.{ℕ-discrete}
-use native.Mathlib.Nat.{zero-add, add-zero, add-suc, suc-add, mod-add-div}
-use mathlib.Core.Path.{_≡_, refl, sym, ap, ap₂, _∙_}
-use mathlib.Core.List.{List, [], _∷_, _++_, append-assoc, append-nil}
-use lib.ListN.{length, getD, take, drop, length-append, take-append-drop, length-drop, List·getD-append}
+use native.Mathlib.Nat.{add-zero, mod-add-div}
+use mathlib.Core.Path.{_≡_, refl, sym, ap, _∙_}
+use mathlib.Core.List.{List, [], _∷_, _++_}
+use lib.ListN.{length, getD, take, drop, length-append, take-append-drop, length-drop}
 use lib.Seq.{drop-at, take-at, take-add, length-take-le, getD-take, getD-drop, getD-append-add, take-all, take-append-le, drop-append-le}
 use lib.Dec.{T, eqb, eqb→eq}
 use borrow.Author.Tests.{eq-eqb}
-use Rattle.trees.proofs.Bools.{and-both, true-T}
+use Rattle.trees.proofs.Bools.{true-T}
 use Rattle.blocks.specs.Halves.{Under, halves, joined, bytesOf, wordsOf}
 use Rattle.blocks.specs.Blocks.{run, word, start, sums, check, block, blocks, part, checked, numbered, inside, contents}
 use Rattle.blocks.proofs.Halves.{under-drop, under-take, under-append, under-joined, length-halves, length-joined, joined-halves, halves-joined}

@@ -3,20 +3,19 @@ use Prim.Native.Nat.{ℕ, zero, suc, _+_, _-_, _*_, _/_, _%_, _<_, _≤_}
 use native.Mathlib.Omega.{arith}
 use mathlib.Core.Path.{_≡_, refl, sym, ap, ap₂, _∙_}
 use mathlib.Core.Logic.{_≢_}
-use mathlib.Core.Bool.{Bool, true, false, _&&_}
+use mathlib.Core.Bool.{false, _&&_}
 use mathlib.Core.List.{List, [], _∷_, _++_}
 use lib.ListN.{length, getD, take, drop, set, replicate, length-append, length-replicate, length-set, length-drop, take-append-drop}
-use lib.Seq.{take-all, take-at, drop-at, length-take-le, drop-set-add, take-set-lt, take-set-le, drop-set-lt}
+use lib.Seq.{take-all, take-at, drop-at, length-take-le, drop-set-add, take-set-lt, take-set-le}
 use lib.Dec.{T, eqb, leb, eqb→eq, leb→le}
 use borrow.Author.Tests.{eq-eqb, le-leb}
 use Rattle.trees.specs.Lists.{all}
-use Rattle.trees.specs.Rulings.{Ruling, refused, Rule, whole, each, ruling, numberOf, treeOf, Passes, Every, and, done}
+use Rattle.trees.specs.Rulings.{refused, Rule, whole, each, ruling, numberOf, treeOf, Passes, Every, and, done}
 use Rattle.trees.proofs.Bools.{and-left, and-right}
 use Rattle.trees.proofs.Rulings.{every-head, every-tail, ruling-pass, ruling-fail}
 use Rattle.blocks.specs.Halves.{Under}
-use Rattle.blocks.specs.Blocks.{run, block, blocks, part, checked, numbered, contents, count, content}
+use Rattle.blocks.specs.Blocks.{run, block, part, checked, numbered, count, content}
 use Rattle.blocks.specs.Image.{fewest, filled, imageOf, blank, sized, blockRules}
-use Rattle.blocks.proofs.Halves.{under-take, under-append, under-zeros}
 use Rattle.blocks.proofs.Sums.{checked-set}
 use Rattle.blocks.proofs.Blocks.{length-part, under-part, getD-part, length-contents, length-blocks, contents-blocks, part-blocks, blocks-contents, checked-block, numbered-block}
 

@@ -1,14 +1,14 @@
 -- What 13, 14 and 15 answer, test by test as code makes them. Assumes nothing.
-use Prim.Native.Nat.{ℕ, zero, suc, _%_, _<_, _≤_}
+use Prim.Native.Nat.{ℕ, _%_, _<_, _≤_}
 use native.Mathlib.Omega.{arith}
-use mathlib.Core.Path.{_≡_, refl, sym, ap, _∙_}
+use mathlib.Core.Path.{_≡_, refl}
 use mathlib.Core.Bool.{Bool, true, false, _&&_}
 use mathlib.Core.List.{List}
 use lib.ListN.{length}
 use lib.Dec.{eqb, leb}
 use borrow.Author.Tests.{eq-eqb, ne-eqb, le-leb, lt-leb}
 use Rattle.trees.specs.Lists.{lowest}
-use Rattle.trees.specs.Rulings.{Ruling, accepted, refused, pick, ruling}
+use Rattle.trees.specs.Rulings.{accepted, refused, pick, ruling}
 use Rattle.blocks.specs.Blocks.{part, checked, numbered, count}
 use Rattle.blocks.specs.Image.{sized, blockRules}
 

@@ -1,17 +1,17 @@
 -- Number and check put into a block, and into every block of an image. Assumes nothing.
-use Prim.Native.Nat.{ℕ, zero, suc, _+_, _-_, _*_, _/_, _%_, _<_, _≤_}
+use Prim.Native.Nat.{ℕ, suc, _+_, _-_, _*_, _/_, _%_, _<_, _≤_}
 use native.Mathlib.Omega.{arith}
 use native.Mathlib.Numerals.{add-one}
-use mathlib.Core.Path.{_≡_, refl, sym, ap, ap₂, _∙_}
+use mathlib.Core.Path.{_≡_, refl, sym, ap, _∙_}
 use mathlib.Core.List.{List, [], _∷_, _++_, append-assoc, append-nil}
-use lib.ListN.{length, take, drop, set, length-append, length-drop, length-set, drop-of-length-le}
-use lib.Seq.{length-take-le, take-at, drop-at, drop-drop, take-set-le, drop-set-lt}
+use lib.ListN.{length, take, drop, set, length-drop, drop-of-length-le}
+use lib.Seq.{length-take-le, take-at, drop-at, drop-drop, drop-set-lt}
 use lib.Dec.{T}
 use borrow.Author.Tests.{eq-eqb}
 use borrow.Rule.Slice.PartMut.{putMid, same-len-mid}
 use Rattle.trees.proofs.Bools.{true-T}
 use Rattle.blocks.specs.Halves.{Under, wordsOf}
-use Rattle.blocks.specs.Blocks.{run, word, stored, Whole, start, sums, block, blocks, part, checked, numbered, inside, contents, count}
+use Rattle.blocks.specs.Blocks.{word, stored, Whole, start, sums, block, blocks, part, checked, numbered, inside, contents, count}
 use Rattle.blocks.proofs.Sums.{says-checked}
 use Rattle.blocks.proofs.Blocks.{length-block, block-inside, length-part, length-inside, length-contents, length-blocks, blocks-more, part-taken}
 use Rattle.blocks.proofs.Stored.{length-stored, stored-same, stored-other, take-stored}

@@ -1,12 +1,14 @@
--- The two sums of a block: as a loop keeps them, and that one changed byte shows. Assumes nothing.
+-- The two sums of a block: as totals of the bytes, as a loop keeps them, and that one changed byte shows. Assumes nothing.
 use Prim.Native.Nat.{ℕ, zero, suc, _+_, _-_, _*_, _/_, _%_, _<_, _≤_}
 use native.Mathlib.Omega.{arith}
+use native.Mathlib.Nat.{add-assoc, mod-add-div, mod-add-mod, add-mul-mod-self-left, mul-add, mul-zero, zero-mul, suc-mul, mul-suc, mul-comm, mul-left-comm}
+use native.Mathlib.Numerals.{add-one}
 use native.Mathlib.Decide.{decLt, ℕ-discrete}
-use mathlib.Core.Path.{_≡_, refl, sym, ap, _∙_}
+use mathlib.Core.Path.{_≡_, sym, ap, _∙_}
 use mathlib.Core.Logic.{_≢_, inl, inr}
-use mathlib.Core.Bool.{Bool, true, false, _&&_}
+use mathlib.Core.Bool.{false}
 use mathlib.Core.List.{List, [], _∷_}
-use lib.ListN.{length, getD, take, drop, set, drop-of-length-le}
+use lib.ListN.{length, getD, take, drop, set, length-drop, drop-of-length-le}
 use lib.Seq.{length-take-le, drop-cons, getD-take, getD-set-same, getD-set-other, take-set-lt, take-set-le}
 use lib.Dec.{T, eqb, eqb→eq}
 use borrow.Author.Tests.{eq-eqb}
@@ -14,36 +16,79 @@ use Rattle.trees.proofs.Bools.{test, and-left, and-right, true-T}
 use Rattle.blocks.specs.Halves.{Under}
 use Rattle.blocks.specs.Blocks.{Sums, start, grown, sums, word, checked}
 
--- ---- as a loop keeps them
+-- ---- as totals
 
--- the sums x and y after i bytes of l: the bytes that are left lead from them to the sums of all
-abbrev pub SumsAt : List ℕ → ℕ → ℕ → ℕ → Type 0
-SumsAt l i x y = sums (record { a = x; b = y }) (drop i l) ≡ sums start l
-
-pub sums-more : (l : List ℕ) (i x y u v : ℕ) → i < 508 → 508 ≤ length l → SumsAt (take 508 l) i x y → u ≡ (x + getD l i 0) % 65536 → v ≡ (y + u) % 65536 → SumsAt (take 508 l) (i + 1) u v
-unfolding sums
-sums-more l i x y u v h n s e f =
-    let d : drop i (take 508 l) ≡ getD (take 508 l) i 0 ∷ drop (suc i) (take 508 l) = drop-cons (take 508 l) i 0 (rw (length-take-le 508 l n) h) in
-    let z : i + 1 ≡ suc i = omega arith in
-    rw (z, f, e, ← getD-take 508 l i 0 h) (rw d at s)
-
-pub sums-end : (l : List ℕ) (i x y : ℕ) → 508 ≤ i → 508 ≤ length l → SumsAt (take 508 l) i x y → (x ≡ sums start (take 508 l) .a) × (y ≡ sums start (take 508 l) .b)
-unfolding sums
-sums-end l i x y h n s =
-    let d : drop i (take 508 l) ≡ [] = drop-of-length-le (take 508 l) {i = i} (rw (length-take-le 508 l n) h) in
-    let e : _≡_ {A = Sums} (record { a = x; b = y }) (sums start (take 508 l)) = rw d at s in
-    (ap (λ r. r .a) e, ap (λ r. r .b) e)
-
--- ---- one changed byte
-
-total : List ℕ → ℕ
+pub total : List ℕ → ℕ
 total [] = 0
 total (x ∷ l) = x + total l
+
+-- each entry as many times as there are entries from it on
+pub weight : List ℕ → ℕ
+weight [] = 0
+weight (x ∷ l) = x * suc (length l) + weight l
 
 sum-total : (s : Sums) (l : List ℕ) → s .a < 65536 → sums s l .a ≡ (s .a + total l) % 65536
 unfolding sums total
 sum-total s [] h = omega arith
 sum-total s (x ∷ l) h = sum-total (grown s x) l (omega arith) ∙ omega arith
+
+-- a + x added once, and then n times more, is r added as often, and a multiple of 65,536
+unwrapped : (a b x n w r q : ℕ) → a + x ≡ r + 65536 * q → b + suc n * a + (x * suc n + w) ≡ b + r + (n * r + w) + 65536 * (q + n * q)
+unwrapped a b x n w r q e =
+    let f : n * (a + x) ≡ n * r + 65536 * (n * q) = ap (λ (z : ℕ). n * z) e ∙ mul-add n r (65536 * q) ∙ ap (λ (z : ℕ). n * r + z) (mul-left-comm n 65536 q) in
+    omega (arith, f, mul-add n a x, suc-mul n a, mul-suc x n, mul-comm x n)
+
+-- so B may grow by the A that wraps or by the one that does not
+weight-step : (a b x n w : ℕ) → ((b + (a + x) % 65536) % 65536 + n * ((a + x) % 65536) + w) % 65536 ≡ (b + suc n * a + (x * suc n + w)) % 65536
+weight-step a b x n w =
+    let r = (a + x) % 65536 in
+    let q = (a + x) / 65536 in
+    ap (λ (z : ℕ). z % 65536) (add-assoc ((b + r) % 65536) (n * r) w)
+    ∙ mod-add-mod (b + r) 65536 (n * r + w)
+    ∙ sym (add-mul-mod-self-left (b + r + (n * r + w)) 65536 (q + n * q))
+    ∙ ap (λ (z : ℕ). z % 65536) (sym (unwrapped a b x n w r q (sym (mod-add-div (a + x) 65536))))
+
+sum-weight : (s : Sums) (l : List ℕ) → s .b < 65536 → sums s l .b ≡ (s .b + length l * s .a + weight l) % 65536
+unfolding sums weight
+sum-weight s [] h = omega (arith, zero-mul (s .a))
+sum-weight s (x ∷ l) h = sum-weight (grown s x) l (omega arith) ∙ weight-step (s .a) (s .b) x (length l) (weight l)
+
+-- ---- as a loop keeps them
+
+-- x and y after i bytes of l: what is left adds its total to x and its weight to y
+pub record SumsAt (l : List ℕ) (i x y : ℕ) : Type 0 where
+  pub small-a : x < 65536
+  pub small-b : y < 65536
+  pub is-a : sums start l .a ≡ (x + total (drop i l)) % 65536
+  pub is-b : sums start l .b ≡ (y + weight (drop i l)) % 65536
+
+pub sums-none : (l : List ℕ) → SumsAt l 0 0 0
+sums-none l =
+    record {
+      small-a = omega arith;
+      small-b = omega arith;
+      is-a = sum-total start l (omega arith);
+      is-b = omega (arith, sum-weight start l (omega arith), mul-zero (length l));
+    }
+
+module _ (l : List ℕ) (n : 508 ≤ length l) (i x y : ℕ) (s : SumsAt (take 508 l) i x y) where
+  -- one byte more, as often as there are bytes from it on
+  pub sums-more : (t u v w : ℕ) → i < 508 → t ≡ 508 - i → u ≡ (x + getD l i 0) % 65536 → w ≡ (getD l i 0 * t) % 65536 → v ≡ (y + w) % 65536 → SumsAt (take 508 l) (i + 1) u v
+  unfolding total weight
+  sums-more t u v w h p e g f =
+      let m : length (take 508 l) ≡ 508 = length-take-le 508 l n in
+      let rest = drop (suc i) (take 508 l) in
+      let d : drop i (take 508 l) ≡ getD l i 0 ∷ rest = drop-cons (take 508 l) i 0 (rw m h) ∙ ap (λ z. z ∷ rest) (getD-take 508 l i 0 h) in
+      let k : suc (length rest) ≡ t = ap suc (length-drop (suc i) (take 508 l)) ∙ omega arith in
+      rw (add-one i) (record { small-a = omega arith; small-b = omega arith; is-a = omega (arith, rw d at (s .is-a)); is-b = omega (arith, rw (d, k) at (s .is-b)) })
+
+  pub sums-end : 508 ≤ i → (x ≡ sums start (take 508 l) .a) × (y ≡ sums start (take 508 l) .b)
+  unfolding total weight
+  sums-end h =
+      let d : drop i (take 508 l) ≡ [] = drop-of-length-le (take 508 l) {i = i} (rw (length-take-le 508 l n) h) in
+      (omega (arith, rw d at (s .is-a), s .small-a), omega (arith, rw d at (s .is-b), s .small-b))
+
+-- ---- one changed byte
 
 total-set : (l : List ℕ) (i v : ℕ) → i < length l → total (set l i v) + getD l i 0 ≡ total l + v
 unfolding total

@@ -1,19 +1,33 @@
 -- What each way through a question answers. Assumes nothing.
-use Prim.Native.Nat.{ℕ, _+_, _*_, _/_, _%_, _≤_, _<_}
+use Prim.Native.Nat.{ℕ, _*_, _/_, _%_, _≤_, _<_}
 use native.Mathlib.Omega.{arith}
 use mathlib.Core.Path.{_≡_, refl, sym, ap, _∙_}
-use mathlib.Core.Bool.{Bool, true, false, _&&_}
-use mathlib.Core.List.{List, [], _∷_, _++_}
+use mathlib.Core.Bool.{true, false, _&&_}
+use mathlib.Core.List.{List}
 use lib.ListN.{length}
-use lib.Dec.{T, eqb, leb, eqb→eq}
+use lib.Dec.{eqb, eqb→eq}
 use borrow.Author.Tests.{lt-leb, le-leb, eq-eqb, ne-eqb}
-use Rattle.trees.specs.Rulings.{Ruling, accepted, refused, whole, ruling, pick, numberOf, treeOf}
+use Rattle.trees.specs.Rulings.{Ruling, accepted, refused, whole, pick, numberOf, treeOf, Fine, verdict}
 use Rattle.trees.specs.Rules.{sized, speciesRules}
-use Rattle.trees.proofs.Bools.{and-left, and-right, true-T, test}
+use Rattle.trees.proofs.Bools.{and-left, and-right, true-T}
 use Rattle.trees.proofs.Rulings.{ruling-fail}
-use Rattle.families.specs.Loading.{openRules, entryRules, load}
-use Rattle.collector.specs.Host.{fits, rackParents, rackTaxa, scratch, hostRuling}
-use Rattle.collector.proofs.Decoding.{length-parents}
+use Rattle.blocks.proofs.Halves.{length-joined}
+use Rattle.families.specs.Loading.{Contents, lends, openRules, entryRules, load}
+use Rattle.images.specs.Judging.{imageRules, plain}
+use Rattle.images.proofs.Loads.{judged-load, opens-few}
+use Rattle.collector.specs.Host.{fits, rackParents, rackTaxa, scratch, hostRuling, numberIn, treeIn, placeIn}
+
+abbrev pub numberOfPlain : Ruling Fine → ℕ
+numberOfPlain (accepted c) = 0
+numberOfPlain (refused n t v) = n
+
+abbrev pub treeOfPlain : Ruling Fine → ℕ
+treeOfPlain (accepted c) = 0
+treeOfPlain (refused n t v) = t
+
+abbrev pub placeOfPlain : Ruling Fine → ℕ
+placeOfPlain (accepted c) = 0
+placeOfPlain (refused n t v) = v
 
 pub host-unfit : (image parents taxa : List ℕ) → fits parents taxa ≡ false → refused 1 1 0 ≡ hostRuling image parents taxa
 unfolding hostRuling pick
@@ -42,7 +56,7 @@ pub host-long : (image parents taxa : List ℕ) → fits parents taxa ≡ true �
 unfolding load entryRules openRules speciesRules numberOf treeOf sized
 host-long image parents taxa e l =
     let n = length parents / 2 in
-    let len : length (rackParents parents) ≡ n = length-parents parents n ((fit-lengths parents taxa e) .0) in
+    let len : length (rackParents parents) ≡ n = length-joined 256 n parents ((fit-lengths parents taxa e) .0) in
     let z : sized (rackParents parents) (rackTaxa taxa) ≡ false = rw (len, le-leb 1 n (omega arith), lt-leb n 2047 l) in
     sym (ruling-fail (whole 1 1 0 (sized (rackParents parents) (rackTaxa taxa))) _ _ 0 (refl, z)) ∙ host-fit image parents taxa e
 
@@ -59,3 +73,28 @@ module _ (parents taxa : List ℕ) where
   pub fits-same : length parents % 2 ≡ 0 → length taxa % 4 ≡ 0 → eqb (length parents / 2) (length taxa / 4) ≡ fits parents taxa
   unfolding fits
   fits-same e f = rw (eq-eqb (length parents % 2) 0 e, eq-eqb (length taxa % 4) 0 f)
+
+-- the tables that a call works in are long enough for any image that opens
+scratch-lends : (q : ℕ) → q ≤ 2047 → lends q scratch ≡ true
+unfolding lends
+scratch-lends q h = rw (le-leb q 2047 h)
+
+-- an image is judged as it is loaded
+pub host-judged : (image parents taxa : List ℕ) → fits parents taxa ≡ true → verdict (imageRules (rackParents parents) (rackTaxa taxa) image) ≡ plain (hostRuling image parents taxa)
+host-judged image parents taxa e =
+    judged-load (rackParents parents) (rackTaxa taxa) image scratch
+    (λ o. scratch-lends _ (opens-few {sp = rackParents parents} {st = rackTaxa taxa} {s = image} (record { opens = o; genes = refl })))
+    ∙ ap plain (host-fit image parents taxa e)
+
+-- what is answered of a ruling does not need its value
+pub number-plain : (r : Ruling Contents) (x : Ruling Fine) → x ≡ plain r → numberOfPlain x ≡ numberIn r
+number-plain (accepted c) x e = ap numberOfPlain e
+number-plain (refused n t v) x e = ap numberOfPlain e
+
+pub tree-plain : (r : Ruling Contents) (x : Ruling Fine) → x ≡ plain r → treeOfPlain x ≡ treeIn r
+tree-plain (accepted c) x e = ap treeOfPlain e
+tree-plain (refused n t v) x e = ap treeOfPlain e
+
+pub place-plain : (r : Ruling Contents) (x : Ruling Fine) → x ≡ plain r → placeOfPlain x ≡ placeIn r
+place-plain (accepted c) x e = ap placeOfPlain e
+place-plain (refused n t v) x e = ap placeOfPlain e

@@ -1,2 +1,2 @@
-pub mod Decoding
 pub mod Asking
+pub mod One

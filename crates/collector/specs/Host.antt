@@ -1,10 +1,12 @@
 -- What the rack's collector hands in: two tables as bytes.                              (01, "The host and the program")
 --   fits parents taxa == do the lengths make two equal tables?                           (01, "lengths that don't make two equal tables give 1")
 --   rackParents b, rackTaxa b == the tables: "Tables come as bytes, low byte first"; 2 bytes a parent, 4 a taxon
+--   Halved parents taxa n <-> the lengths make two tables of n entries
 --   hostRuling ..     == what loading the image on the rack answers; 1 where the lengths do not fit
 --   numberIn, treeIn, placeIn, duplicationsIn, lossesIn == the number that each call answers
 -- Assumes nothing.
 use Prim.Native.Nat.{ℕ, _*_, _/_, _%_}
+use mathlib.Core.Path.{_≡_}
 use mathlib.Core.Bool.{Bool, _&&_}
 use mathlib.Core.List.{List}
 use lib.ListN.{length, replicate}
@@ -21,6 +23,10 @@ rackParents b = wordsOf b
 
 abbrev pub rackTaxa : List ℕ → List ℕ
 rackTaxa b = longsOf (wordsOf b)
+
+pub record Halved (parents taxa : List ℕ) (n : ℕ) : Type 0 where
+  pub parents-size : length parents ≡ 2 * n
+  pub taxa-size : length taxa ≡ 4 * n
 
 -- the tables that a call works in; the host lends none
 abbrev pub scratch : Lent

@@ -1,14 +1,14 @@
 // One question of the collector's: an image against two tables that come as bytes.
 ghost use mathlib.Core.Path.{_≡_};
-ghost use Prim.Native.Nat.{_*_, _≤_};
+ghost use Prim.Native.Nat.{_*_};
 ghost use lib.ListN.{length};
 ghost use Rattle.families.specs.Loading.{load};
 ghost use Rattle.images.specs.Answers.{loadedOf};
 ghost use Rattle.collector.specs.Host.{fits, rackParents, rackTaxa, scratch, hostRuling};
-use crate::decode;
 use images::load;
 use images::load::Loaded;
 use trees::Refusal;
+use words::piece;
 
 // The image on a rack with these tables. The four tables it is loaded into stand on the stack, 20,470 bytes.
 fn on_rack(image: &[u8], species_parents: &[u16], species_taxa: &[u32]) -> Loaded
@@ -40,8 +40,8 @@ fn on_bytes(
     requires { ⌜ (length (now parents) ≡ 2 * length (now «species_parents»)) × (length (now taxa) ≡ 4 * length (now «species_taxa»)) ⌝ }
     ensures { λ r. ⌜ loadedOf r ≡ (load (rackParents (now (parents .entry))) (rackTaxa (now (taxa .entry))) (now (image .entry)) scratch) .answer ⌝ }
 {
-    decode::decode_parents(parents, species_parents);
-    decode::decode_taxa(taxa, species_taxa);
+    piece::copy_words(parents, species_parents);
+    piece::copy_longs(taxa, species_taxa);
     on_rack(image, species_parents, species_taxa)
 }
 
@@ -56,7 +56,7 @@ fn no_tables() -> Loaded
 }
 
 // Do the lengths make two equal tables?
-fn fitting(parents: &[u8], taxa: &[u8]) -> bool
+pub(crate) fn fitting(parents: &[u8], taxa: &[u8]) -> bool
     ensures { λ r. ⌜ r ≡ fits (now (parents .entry)) (now (taxa .entry)) ⌝ }
 {
     if parents.len() % 2 != 0 {

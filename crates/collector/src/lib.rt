@@ -1,22 +1,23 @@
 // What the rack's C collector asks: the refusal of an image against the rack's two species tables, and what its history counts.
 // Every slice is a pointer and a length on the C side; include/panheron.h declares the calls.
 mod ask;
-mod decode;
+mod judge;
 
 ghost use mathlib.Core.Path.{_≡_};
 ghost use Prim.Native.Nat.{_%_};
 ghost use Rattle.collector.specs.Host.{hostRuling, numberIn, treeIn, placeIn, duplicationsIn, lossesIn};
 use images::load::Loaded;
+use judges::Judged;
 
 // The number of the refusal, or 0.
 #[no_mangle]
 pub extern "C" fn panheron_refusal(image: &[u8], parents: &[u8], taxa: &[u8]) -> u32
     ensures { λ r. ⌜ r ≡ numberIn (hostRuling (now (image .entry)) (now (parents .entry)) (now (taxa .entry))) ⌝ }
 {
-    let answer = ask::ask(image, parents, taxa);
+    let answer = judge::refusal(image, parents, taxa);
     match answer {
-        Loaded::Family(_) => 0,
-        Loaded::Refused(r) => r.number as u32,
+        Judged::Sound => 0,
+        Judged::Refused(r) => r.number as u32,
     }
 }
 
@@ -25,10 +26,10 @@ pub extern "C" fn panheron_refusal(image: &[u8], parents: &[u8], taxa: &[u8]) ->
 pub extern "C" fn panheron_tree(image: &[u8], parents: &[u8], taxa: &[u8]) -> u32
     ensures { λ r. ⌜ r ≡ treeIn (hostRuling (now (image .entry)) (now (parents .entry)) (now (taxa .entry))) ⌝ }
 {
-    let answer = ask::ask(image, parents, taxa);
+    let answer = judge::refusal(image, parents, taxa);
     match answer {
-        Loaded::Family(_) => 0,
-        Loaded::Refused(r) => r.tree as u32,
+        Judged::Sound => 0,
+        Judged::Refused(r) => r.tree as u32,
     }
 }
 
@@ -37,10 +38,10 @@ pub extern "C" fn panheron_tree(image: &[u8], parents: &[u8], taxa: &[u8]) -> u3
 pub extern "C" fn panheron_place(image: &[u8], parents: &[u8], taxa: &[u8]) -> u32
     ensures { λ r. ⌜ r ≡ placeIn (hostRuling (now (image .entry)) (now (parents .entry)) (now (taxa .entry))) % 4294967296 ⌝ }
 {
-    let answer = ask::ask(image, parents, taxa);
+    let answer = judge::refusal(image, parents, taxa);
     match answer {
-        Loaded::Family(_) => 0,
-        Loaded::Refused(r) => (r.place % 4294967296) as u32,
+        Judged::Sound => 0,
+        Judged::Refused(r) => (r.place % 4294967296) as u32,
     }
 }
 

@@ -2,16 +2,15 @@
 use Prim.Native.Nat.{ℕ, _+_, _≤_, _<_}
 use native.Mathlib.Omega.{arith}
 use native.Mathlib.Decide.{ℕ-discrete}
-use mathlib.Core.Path.{_≡_, refl, sym, ap, _∙_}
-use mathlib.Core.Bool.{true}
+use mathlib.Core.Path.{_≡_, sym, _∙_}
 use mathlib.Core.List.{List}
 use lib.ListN.{length, getD, set, length-set}
 use lib.Seq.{getD-set-same, getD-set-other}
 use Rattle.trees.specs.Lists.{total, one}
-use Rattle.trees.specs.Trees.{none, up, line, depth}
+use Rattle.trees.specs.Trees.{up, depth}
 use Rattle.trees.specs.Sound.{SoundTree}
 use Rattle.trees.proofs.Lines.{up-at, line-out}
-use Rattle.trees.proofs.Shape.{inners, inner-count, depth-few}
+use Rattle.trees.proofs.Shape.{inner-count, depth-few}
 use Rattle.trees.proofs.Sound.{rooted}
 use Rattle.histories.specs.Histories.{everyNode}
 use Rattle.histories.proofs.Leaves.{depth-up}

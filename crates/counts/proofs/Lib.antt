@@ -1,2 +1,3 @@
 pub mod Depths
 pub mod Tallying
+pub mod One

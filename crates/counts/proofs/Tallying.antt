@@ -3,25 +3,21 @@ use Prim.Native.Nat.{ℕ, _+_, _-_, _*_, _≤_, _<_}
 use native.Mathlib.Omega.{arith}
 use native.Mathlib.Decide.{decLt}
 use mathlib.Core.Path.{_≡_, refl, sym, ap, _∙_}
-use mathlib.Core.Logic.{_⊎_, inl, inr}
-use mathlib.Core.Bool.{Bool, true, false}
 use mathlib.Core.List.{List}
 use lib.ListN.{length, getD}
 use lib.Dec.{eqb, ltb}
 use borrow.Author.Tests.{lt-ltb, le-ltb}
-use Rattle.trees.specs.Lists.{range, total, one}
+use Rattle.trees.specs.Lists.{one}
 use Rattle.trees.specs.Rulings.{pick}
-use Rattle.trees.specs.Trees.{up, nodes, depth}
+use Rattle.trees.specs.Trees.{up, nodes}
 use Rattle.trees.specs.Tables.{Pair}
-use Rattle.trees.specs.Sound.{Sound}
 use Rattle.trees.proofs.Lists.{only, total-cong, total-more, total-part, range-has}
 use Rattle.trees.proofs.Lines.{up-at, depth-le}
 use Rattle.trees.proofs.Sound.{trees}
-use Rattle.histories.specs.Histories.{History, told, Agree, everyNode, depthIn, duplications, speciations, losses, lossesIn, climbs}
-use Rattle.histories.specs.Legal.{Legal}
+use Rattle.histories.specs.Histories.{History, told, Agree, everyNode, depthIn, duplications, speciations, lossesIn, climbs}
 use Rattle.histories.proofs.Counts.{climbs-below, climbs-losses, losses-agree, climbs-agree, duplications-agree, speciations-agree}
 use Rattle.histories.proofs.Bounds.{climbs-few}
-use Rattle.counts.specs.Tallies.{Deep, stepsOf, Step, kindsTo, stepsTo, Counted, tallied, Countable, historyTally, Story}
+use Rattle.counts.specs.Tallies.{Deep, stepsOf, Step, kindsTo, stepsTo, tallied, Countable, historyTally, Story}
 
 -- ---- one turn of the sums
 

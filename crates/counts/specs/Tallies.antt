@@ -7,12 +7,11 @@
 --   talliedOf r          == the same numbers, as the function hands them back
 --   historyTally w h     == what 01 counts of h
 -- proofs/Tallying.antt shows that `tallied` is `historyTally` for a legal history. Assumes nothing.
-use Prim.Native.Nat.{ℕ, _+_, _-_, _*_, _≤_, _<_}
+use Prim.Native.Nat.{ℕ, _-_, _*_, _≤_, _<_}
 use mathlib.Core.Path.{_≡_}
-use mathlib.Core.Bool.{Bool, true}
 use mathlib.Core.List.{List}
 use lib.ListN.{length, getD}
-use lib.Dec.{eqb, ltb, T}
+use lib.Dec.{eqb, ltb}
 use Rattle.trees.specs.Lists.{range, total, one}
 use Rattle.trees.specs.Rulings.{pick}
 use Rattle.trees.specs.Trees.{depth}

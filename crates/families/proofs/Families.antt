@@ -1,15 +1,13 @@
 -- The words of a family: read back as they were written, and written back as they were read. Assumes nothing.
-use Prim.Native.Nat.{ℕ, zero, suc, _+_, _*_, _<_, _≤_}
+use Prim.Native.Nat.{ℕ, _+_, _*_, _≤_}
 use native.Mathlib.Omega.{arith}
-use native.Mathlib.Nat.{add-zero}
-use mathlib.Core.Path.{_≡_, refl, sym, ap, ap₂, _∙_}
-use mathlib.Core.List.{List, [], _∷_, _++_, append-assoc}
-use lib.ListN.{length, getD, take, drop, length-append, length-drop}
-use lib.Seq.{length-take-le}
-use Rattle.blocks.specs.Halves.{Under, halves, joined, lowHigh, longsOf}
+use mathlib.Core.Path.{_≡_, refl, sym, ap, _∙_}
+use mathlib.Core.List.{List, _∷_, _++_, append-assoc}
+use lib.ListN.{length, getD, take, drop, length-append}
+use Rattle.blocks.specs.Halves.{Under, lowHigh, longsOf}
 use Rattle.blocks.specs.Blocks.{run}
 use Rattle.blocks.proofs.Halves.{length-halves, length-joined, joined-halves, halves-joined, under-take, under-drop}
-use Rattle.families.specs.Families.{Family, tablesOf, familyWords, speciesCount, geneCount, wordCount, familyAt, familyOf, Even}
+use Rattle.families.specs.Families.{Family, tablesOf, familyWords, speciesCount, geneCount, wordCount, familyOf, Even}
 use Rattle.families.proofs.Runs.{cut, run-add, run-three, length-run}
 
 -- ---- how many words

@@ -5,35 +5,35 @@
 --   changed-refused  :  one byte of an accepted image changed, anywhere, to any other value: refusal 14 at that block, and nothing lent is touched
 --   loaded-fewest    :  an accepted image has the fewest blocks that hold its words, and at most 65
 -- Assumes nothing.
-use Prim.Native.Nat.{ℕ, zero, suc, _+_, _*_, _/_, _<_, _≤_}
+use Prim.Native.Nat.{ℕ, _+_, _*_, _/_, _<_, _≤_}
 use native.Mathlib.Omega.{arith}
 use mathlib.Core.Path.{_≡_, refl, sym, ap, subst, _∙_}
 use mathlib.Core.Logic.{_≢_}
-use mathlib.Core.List.{List, [], _∷_, _++_, append-assoc, append-nil}
+use mathlib.Core.List.{List, [], _++_, append-assoc, append-nil}
 use lib.ListN.{length, getD, take, drop, set, length-append, List·getD-append}
-use lib.Seq.{take-at, length-take-le, getD-take, take-all}
+use lib.Seq.{take-at, length-take-le, getD-take}
 use lib.Dec.{T}
 use Rattle.trees.specs.Tables.{Pair, pair}
 use Rattle.trees.specs.Sound.{Sound}
 use Rattle.trees.specs.Lent.{replaced}
-use Rattle.trees.specs.Rulings.{Ruling, accepted, refused, Rule, ruling, fine, verdict}
+use Rattle.trees.specs.Rulings.{accepted, refused, Rule, ruling, fine, verdict}
 use Rattle.trees.specs.Rules.{speciesRules}
-use Rattle.trees.proofs.Rulings.{ruling-all, ruling-stays}
+use Rattle.trees.proofs.Rulings.{ruling-all}
 use Rattle.trees.proofs.Judged.{species-sound}
-use Rattle.histories.specs.Histories.{History, Agree, told, everyNode, duplications, lossesIn, depthIn}
+use Rattle.histories.specs.Histories.{Agree, told, everyNode, depthIn}
 use Rattle.histories.specs.Legal.{Legal}
 use Rattle.histories.proofs.Legal.{legal-agree}
 use Rattle.histories.proofs.Counts.{losses-agree, duplications-agree}
 use Rattle.blocks.specs.Halves.{Under}
 use Rattle.blocks.specs.Blocks.{count, content}
-use Rattle.blocks.specs.Image.{fewest, filled, imageOf, blockRules}
-use Rattle.blocks.proofs.Blocks.{under-contents, length-contents}
-use Rattle.blocks.proofs.Image.{Intact, fewest-holds, fewest-least, length-filled, blank-filled, length-image, count-image, content-image, image-intact, image-words, changed}
+use Rattle.blocks.specs.Image.{fewest, filled, imageOf}
+use Rattle.blocks.proofs.Blocks.{under-contents}
+use Rattle.blocks.proofs.Image.{fewest-holds, fewest-least, blank-filled, count-image, content-image, image-intact, image-words, changed}
 use Rattle.families.specs.Families.{Family, familyWords, speciesCount, geneCount, wordCount, familyOf, Even}
 use Rattle.families.specs.Writing.{storedFamily, familyImage, Writing, write}
-use Rattle.families.specs.Loading.{limit, Lent, lends, openRules, entryRules, formRules, rackRules, storedPair, storedHistory, storyRules, Contents, contentsOf, Loading, load}
+use Rattle.families.specs.Loading.{limit, Lent, lends, openRules, entryRules, storedPair, storedHistory, Contents, contentsOf, load}
 use Rattle.families.proofs.Families.{length-words, family-words, length-parents, length-genes, even-family, words-family}
-use Rattle.families.proofs.Opened.{Framed, Opened, opened-is, words-room}
+use Rattle.families.proofs.Opened.{Opened, words-room}
 use Rattle.families.proofs.Loaded.{Lends, lends-is, Loaded, loadedAs, load-accepted, load-leaves, Written, write-accepted, write-leaves}
 
 -- ---- how many blocks

@@ -1,28 +1,28 @@
 -- Which images load, which families are written, and what each call leaves. Assumes nothing.
-use Prim.Native.Nat.{ℕ, _+_, _*_, _<_, _≤_}
+use Prim.Native.Nat.{ℕ, _+_, _≤_}
 use native.Mathlib.Omega.{arith}
-use mathlib.Core.Path.{_≡_, refl, sym, ap, _∙_}
+use mathlib.Core.Path.{_≡_, refl}
 use mathlib.Core.Logic.{_↔_}
-use mathlib.Core.Bool.{Bool, _&&_}
+use mathlib.Core.Bool.{_&&_}
 use mathlib.Core.List.{List, [], _∷_, _++_}
 use lib.ListN.{length}
 use lib.Dec.{T, leb, leb→le, le→leb}
-use Rattle.trees.specs.Tables.{Pair, pair}
+use Rattle.trees.specs.Tables.{Pair}
 use Rattle.trees.specs.Sound.{Sound}
 use Rattle.trees.specs.Lent.{replaced}
-use Rattle.trees.specs.Rulings.{Ruling, accepted, Rule, whole, ruling, Fine, fine, verdict, Passes, Every, done, and}
+use Rattle.trees.specs.Rulings.{accepted, whole, ruling, fine, verdict, Passes, Every, done, and}
 use Rattle.trees.specs.Rules.{sized, familyRules}
 use Rattle.trees.proofs.Bools.{and-both, and-left, and-right}
 use Rattle.trees.proofs.Rulings.{every-head, every-join, every-left, every-right, ruling-is, ruling-passes, ruling-accepted}
-use Rattle.trees.proofs.Judged.{Sized, is-sized, family-sound}
+use Rattle.trees.proofs.Judged.{is-sized, family-sound}
 use Rattle.histories.specs.Histories.{told, everyNode}
 use Rattle.histories.specs.Legal.{Legal}
 use Rattle.histories.specs.Rules.{descentRules, offerRules, offerCounts, offerRuling}
 use Rattle.histories.proofs.Judged.{descent-legal}
 use Rattle.histories.proofs.Accepted.{Offered, offer-accepted}
-use Rattle.blocks.specs.Blocks.{count, content}
-use Rattle.families.specs.Families.{Family, geneCount, familyOf, Even}
-use Rattle.families.specs.Writing.{storedFamily, familyImage, writeRules, Writing, write}
+use Rattle.blocks.specs.Blocks.{content}
+use Rattle.families.specs.Families.{Family, geneCount, familyOf}
+use Rattle.families.specs.Writing.{storedFamily, familyImage, writeRules, write}
 use Rattle.families.specs.Loading.{Lent, lends, openRules, entryRules, storedPair, storedHistory, storyRules, Contents, contentsOf, Loading, load}
 use Rattle.families.proofs.Families.{length-genes, even-family}
 use Rattle.families.proofs.Opened.{Opened, opened-is, words-room}

@@ -1,18 +1,17 @@
 -- What the rules of a load say: which images open on a rack, and which of those load. Assumes nothing.
-use Prim.Native.Nat.{ℕ, zero, suc, _+_, _*_, _<_, _≤_}
+use Prim.Native.Nat.{ℕ, _+_, _<_, _≤_}
 use native.Mathlib.Omega.{arith}
-use mathlib.Core.Path.{_≡_, refl, sym, ap, ap₂, _∙_}
+use mathlib.Core.Path.{_≡_, sym, ap, _∙_}
 use mathlib.Core.Logic.{_↔_}
-use mathlib.Core.Bool.{Bool, true, false, _&&_}
-use mathlib.Core.List.{List, [], _∷_, _++_}
-use lib.ListN.{length, getD, take, drop}
+use mathlib.Core.Bool.{_&&_}
+use mathlib.Core.List.{List, _++_}
+use lib.ListN.{length, getD, drop}
 use lib.Seq.{ext-getD}
 use lib.Dec.{T, eqb, leb, eqb→eq, leb→le, le→leb, eqb-refl}
 use borrow.Author.Tests.{eq-eqb}
-use Rattle.trees.specs.Tables.{Pair, pair}
-use Rattle.trees.specs.Sound.{SoundSpecies, SoundTree, Sound}
-use Rattle.trees.specs.Rulings.{Rule, whole, each, Passes, Every, done, and}
-use Rattle.trees.specs.Rules.{sized, speciesRules}
+use Rattle.trees.specs.Sound.{SoundSpecies}
+use Rattle.trees.specs.Rulings.{Passes, Every, done, and}
+use Rattle.trees.specs.Rules.{speciesRules}
 use Rattle.trees.proofs.Bools.{and-both, and-left, and-right, true-T}
 use Rattle.trees.proofs.Rulings.{every-head, every-tail, every-join, every-left, every-right}
 use Rattle.trees.proofs.Judged.{species-sound}
@@ -21,9 +20,8 @@ use Rattle.blocks.specs.Image.{fewest, blank, blockRules}
 use Rattle.blocks.proofs.Blocks.{length-contents}
 use Rattle.blocks.proofs.Image.{Intact, intact, intact-passes, fewest-holds}
 use Rattle.words.specs.Words.{alike}
-use Rattle.families.specs.Families.{Family, speciesCount, geneCount, wordCount, familyOf, Even}
+use Rattle.families.specs.Families.{speciesCount, geneCount, wordCount, familyOf}
 use Rattle.families.specs.Loading.{limit, inSize, framed, formRules, rackRules, contentRules, openRules}
-use Rattle.families.proofs.Runs.{length-run}
 use Rattle.families.proofs.Families.{length-parents, even-family}
 
 -- ---- 17

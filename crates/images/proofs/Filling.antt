@@ -1,12 +1,12 @@
 -- The four lent tables filled and cleared. Assumes nothing.
 use Prim.Native.Nat.{ℕ, _+_, _*_, _<_}
 use native.Mathlib.Omega.{arith}
-use mathlib.Core.Path.{_≡_, refl, sym, ap, _∙_}
+use mathlib.Core.Path.{_≡_, sym}
 use mathlib.Core.List.{List}
 use lib.ListN.{length, set, replicate, length-replicate, getD-replicate}
 use Rattle.blocks.specs.Halves.{longsOf}
 use Rattle.blocks.specs.Blocks.{run}
-use Rattle.words.proofs.Tables.{Filling, filling-start, filling-more, filling-end}
+use Rattle.words.proofs.Tables.{Filling, filling-start, filling-more}
 use Rattle.families.specs.Loading.{Lent}
 use Rattle.images.specs.Conditions.{EvenLent}
 use Rattle.images.specs.Outcomes.{lent, genesAt}

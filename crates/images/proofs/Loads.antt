@@ -1,25 +1,26 @@
 -- The outcome of a load, way by way as code comes to it. Assumes nothing.
 use Prim.Native.Nat.{ℕ, _<_, _≤_}
 use native.Mathlib.Omega.{arith}
-use mathlib.Core.Path.{_≡_, refl, sym, ap, ap₂, _∙_}
+use mathlib.Core.Path.{_≡_, refl, sym, ap, _∙_}
 use mathlib.Core.Bool.{Bool, true, false, _&&_}
-use mathlib.Core.List.{List, [], _∷_, _++_, append-assoc}
+use mathlib.Core.List.{List, [], _++_}
 use lib.ListN.{length, take, drop, replicate, length-replicate}
 use lib.Seq.{length-take-le}
-use lib.Dec.{T, leb}
+use lib.Dec.{leb}
 use borrow.Author.Tests.{le-leb, lt-leb}
 use Rattle.trees.specs.Lent.{replaced, zeroed}
-use Rattle.trees.specs.Rulings.{Ruling, accepted, refused, Rule, whole, ruling, numberOf, treeOf, Fine, fine, verdict, Passes, Every, done, and}
+use Rattle.trees.specs.Rulings.{Ruling, accepted, refused, Rule, ruling, numberOf, treeOf, Fine, fine, verdict, Passes, Every, done, and}
 use Rattle.trees.proofs.Bools.{true-T}
 use Rattle.trees.proofs.Rulings.{every-join, ruling-all, ruling-stays, ruling-fail, ruling-passes, ruling-accepted}
 use Rattle.blocks.specs.Blocks.{content}
 use Rattle.families.specs.Families.{Family, geneCount, familyOf, Even}
 use Rattle.families.specs.Loading.{Lent, lends, openRules, entryRules, storedPair, storedHistory, storyRules, Contents, contentsOf, tableAfter, Loading, load}
 use Rattle.families.proofs.Families.{length-genes, even-family}
-use Rattle.families.proofs.Opened.{Opened, opened-is, words-room}
+use Rattle.families.proofs.Opened.{opened-is, words-room}
 use Rattle.families.proofs.Loaded.{Lends, lends-is}
 use Rattle.images.specs.Conditions.{Loadable, Opens}
-use Rattle.images.specs.Outcomes.{lent, clearedAll, storyAfter, storyOutcome}
+use Rattle.images.specs.Judging.{storedRules, imageRules, plain}
+use Rattle.images.specs.Outcomes.{lent, clearedAll, storyOutcome}
 use Rattle.images.proofs.Filling.{lent-is}
 use Rattle.images.proofs.Stories.{refused-alike, tablesIn}
 
@@ -71,7 +72,7 @@ module _ (sp st s : List ℕ) (t : Lent) where
       (contentsOf (storedPair sp st (familyOf (content s))) (storedHistory (familyOf (content s)))) n m v e in
       rw (a, e)
 
-  pub load-closed : (x n m v : ℕ) → ruling (openRules sp st s) x ≡ refused n m v → record { answer = refused n m v; tables = t } ≡ load sp st s t
+  pub load-closed : {X : Type 0} (x : X) (n m v : ℕ) → ruling (openRules sp st s) x ≡ refused n m v → record { answer = refused n m v; tables = t } ≡ load sp st s t
   unfolding entryRules
   load-closed x n m v e = entry-refused n m v (ruling-stays (openRules sp st s) _ x fine n m v e)
 
@@ -150,3 +151,32 @@ module _ (sp st s : List ℕ) (t : Lent) (o : Every Passes (openRules sp st s)) 
 
 pub opens-here : (sp st s : List ℕ) (q : ℕ) → ruling (openRules sp st s) (geneCount (content s)) ≡ accepted q → Opens sp st s q
 opens-here sp st s q e = let (p, v) = ruling-accepted (openRules sp st s) (geneCount (content s)) q e in record { opens = p; genes = sym v }
+
+-- it has 2,047 gene nodes at most
+pub opens-few : {sp st s : List ℕ} {q : ℕ} → Opens sp st s q → q ≤ 2047
+opens-few {sp} {st} {s} o = omega (arith, opened-is sp st s .0 (o .opens) .frame .genes, o .genes)
+
+-- ---- an image judged with no table lent
+
+module _ (sp st s : List ℕ) where
+  pub image-opens : Every Passes (openRules sp st s) → verdict (storedRules sp st s) ≡ verdict (imageRules sp st s)
+  image-opens o = sym (ruling-all (openRules sp st s) (storedRules sp st s) fine o)
+
+  pub image-closed : {X : Type 0} (x : X) (n m v : ℕ) → ruling (openRules sp st s) x ≡ refused n m v → refused n m v ≡ verdict (imageRules sp st s)
+  image-closed x n m v e = sym (ruling-stays (openRules sp st s) (storedRules sp st s) x fine n m v e)
+
+  plain-ruling : {A : Type 0} (rs : List Rule) (a : A) (r : Ruling Fine) → verdict rs ≡ r → verdict rs ≡ plain (ruling rs a)
+  plain-ruling rs a (accepted fine) e = e ∙ sym (ap plain (ruling-passes rs a (ruling-accepted rs fine fine e .0)))
+  plain-ruling rs a (refused n m v) e = e ∙ sym (ap plain (refused-alike rs fine a n m v e))
+
+  judged-by : (t : Lent) → (Every Passes (openRules sp st s) → lends (geneCount (content s)) t ≡ true) → (r : Ruling Fine) → verdict (openRules sp st s) ≡ r → verdict (imageRules sp st s) ≡ plain (load sp st s t .answer)
+  unfolding load
+  judged-by t l (accepted fine) e =
+      let o = ruling-accepted (openRules sp st s) fine fine e .0 in
+      let c = contentsOf (storedPair sp st (familyOf (content s))) (storedHistory (familyOf (content s))) in
+      sym (image-opens o) ∙ plain-ruling (storedRules sp st s) c (verdict (storedRules sp st s)) refl ∙ sym (ap plain (past-entry sp st s t o (l o)))
+  judged-by t l (refused n m v) e = sym (image-closed fine n m v e) ∙ ap (λ x. plain (x .answer)) (load-closed sp st s t fine n m v e)
+
+  -- an image is judged as it is loaded, into tables that are long enough
+  pub judged-load : (t : Lent) → (Every Passes (openRules sp st s) → lends (geneCount (content s)) t ≡ true) → verdict (imageRules sp st s) ≡ plain (load sp st s t .answer)
+  judged-load t l = judged-by t l (verdict (openRules sp st s)) refl

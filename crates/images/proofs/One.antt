@@ -3,10 +3,17 @@ use Prim.Native.Nat.{ℕ}
 use native.Mathlib.Omega.{arith}
 use mathlib.Core.Path.{_≡_, sym, ap, _∙_}
 use mathlib.Core.List.{List}
-use Rattle.trees.specs.Rulings.{Ruling, accepted}
+use Rattle.trees.specs.One.{Single}
+use Rattle.trees.specs.Rulings.{verdict}
+use Rattle.trees.specs.Tables.{Pair}
+use Rattle.trees.proofs.One.{single-view, both}
 use Rattle.trees.proofs.Rulings.{refusal-one}
-use Rattle.families.specs.Writing.{Writing}
-use Rattle.families.specs.Loading.{Lent, Contents, Loading}
+use Rattle.judges.specs.Answers.{judgedOf}
+use Rattle.judges.specs.declared.Judged.{Judged}
+use Rattle.judges.proofs.One.{judged-one}
+use Rattle.families.specs.Writing.{Writing, write}
+use Rattle.families.specs.Loading.{Lent, Contents, Loading, load}
+use Rattle.images.specs.Judging.{imageRules}
 use Rattle.images.specs.Answers.{writtenOf, storedOf, loadedOf}
 use Rattle.images.specs.declared.write.Written.{Written}
 use Rattle.images.specs.declared.write.Written.the-variants as written
@@ -29,14 +36,21 @@ loaded-one (loaded.Family a) (loaded.Refused s) e = let z : _≡_ {A = ℕ} 0 1 
 loaded-one (loaded.Refused r) (loaded.Family b) e = let z : _≡_ {A = ℕ} 0 1 = cc in absurd (omega arith)
 loaded-one (loaded.Refused r) (loaded.Refused s) e = ap loaded.Refused (refusal-one r s e)
 
--- the answer and the buffer of a write
-pub write-one : (o : Writing) (a b : Written) (i j : List ℕ) → record { answer = writtenOf a; image = i } ≡ o → record { answer = writtenOf b; image = j } ≡ o → (a ≡ b) × (i ≡ j)
-write-one o a b i j p q =
-    let e = p ∙ sym q in
-    (written-one a b (ap (λ (x : Writing). x .answer) e), ap (λ (x : Writing). x .image) e)
+-- ---- one theorem for each public function
 
--- the answer and the four tables of a load
-pub load-one : (o : Loading) (a b : Loaded) (t u : Lent) → record { answer = loadedOf a; tables = t } ≡ o → record { answer = loadedOf b; tables = u } ≡ o → (a ≡ b) × (t ≡ u)
-load-one o a b t u p q =
+-- the answer and the buffer
+pub write-image-one : (w : Pair) (places labels image : List ℕ)
+    → Single (λ (r : Written × List ℕ). _≡_ {A = Writing} (record { answer = writtenOf (r .0); image = r .1 }) (write w places labels image))
+write-image-one w places labels image a b p q =
     let e = p ∙ sym q in
-    (loaded-one a b (ap (λ (x : Loading). x .answer) e), ap (λ (x : Loading). x .tables) e)
+    both a b (written-one (a .0) (b .0) (ap (λ (x : Writing). x .answer) e)) (ap (λ (x : Writing). x .image) e)
+
+-- the answer and the four tables
+pub load-image-one : (sp st image : List ℕ) (t : Lent)
+    → Single (λ (r : Loaded × Lent). _≡_ {A = Loading} (record { answer = loadedOf (r .0); tables = r .1 }) (load sp st image t))
+load-image-one sp st image t a b p q =
+    let e = p ∙ sym q in
+    both a b (loaded-one (a .0) (b .0) (ap (λ (x : Loading). x .answer) e)) (ap (λ (x : Loading). x .tables) e)
+
+pub judge-image-one : (sp st image : List ℕ) → Single (λ (r : Judged). judgedOf r ≡ verdict (imageRules sp st image))
+judge-image-one sp st image = single-view judgedOf judged-one (verdict (imageRules sp st image))

@@ -5,10 +5,10 @@ use mathlib.Core.Path.{_≡_, refl, sym, ap, _∙_}
 use mathlib.Core.Bool.{Bool, true, false, _&&_}
 use mathlib.Core.List.{List, [], _∷_, _++_, append-assoc}
 use lib.ListN.{length, getD, drop}
-use lib.Dec.{eqb, leb}
+use lib.Dec.{leb}
 use borrow.Author.Tests.{eq-eqb, ne-eqb, le-leb, lt-leb}
 use Rattle.trees.specs.Lists.{lowest}
-use Rattle.trees.specs.Rulings.{Ruling, accepted, refused, Rule, whole, each, ruling, numberOf, treeOf, fine, verdict}
+use Rattle.trees.specs.Rulings.{accepted, refused, Rule, each, ruling, numberOf, treeOf, fine, verdict}
 use Rattle.trees.specs.Rules.{speciesRules}
 use Rattle.trees.proofs.Bools.{true-T}
 use Rattle.trees.proofs.Rulings.{each-fails, each-passes, ruling-pass, ruling-fail, ruling-all, ruling-stays, ruling-accepted}
@@ -17,12 +17,12 @@ use Rattle.blocks.specs.Halves.{longsOf}
 use Rattle.blocks.specs.Blocks.{run, count, content}
 use Rattle.blocks.specs.Image.{fewest, blank, blockRules}
 use Rattle.words.specs.Words.{alike, agree, Comparable}
-use Rattle.families.specs.Families.{speciesCount, geneCount, wordCount, familyOf}
+use Rattle.families.specs.Families.{speciesCount, geneCount}
 use Rattle.blocks.proofs.Blocks.{length-contents}
 use Rattle.blocks.proofs.Image.{intact}
 use Rattle.families.proofs.Opened.{framed-is, words-room}
 use Rattle.families.specs.Loading.{limit, inSize, framed, formRules, rackRules, contentRules, openRules}
-use Rattle.images.specs.Conditions.{FewBlocks, Fitted}
+use Rattle.images.specs.Conditions.{Fitted}
 
 -- ---- 17
 

@@ -1,5 +1,5 @@
 -- Tables put one behind the other, and the image that comes of it. Assumes nothing.
-use Prim.Native.Nat.{ℕ, _+_, _-_, _*_, _/_, _<_, _≤_}
+use Prim.Native.Nat.{ℕ, _+_, _-_, _*_, _≤_}
 use native.Mathlib.Omega.{arith}
 use native.Mathlib.Nat.{zero-add}
 use mathlib.Core.Path.{_≡_, refl, sym, ap, _∙_}
@@ -17,7 +17,7 @@ use Rattle.words.proofs.Words.{length-puts, puts-append, content-puts}
 use Rattle.families.specs.Families.{Family, tablesOf, familyWords, wordCount, Even}
 use Rattle.families.specs.Writing.{familyImage}
 use Rattle.families.proofs.Families.{length-words}
-use Rattle.images.specs.Conditions.{TreeRoom, StoryRoom, TablesRoom, ImageRoom}
+use Rattle.images.specs.Conditions.{ImageRoom}
 
 -- words put behind those that are put already
 pub puts-on : (s l m r t : List ℕ) (i j : ℕ) → r ≡ puts s i l → i + length l ≡ j → t ≡ puts r j m → t ≡ puts s i (l ++ m)

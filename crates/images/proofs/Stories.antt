@@ -1,12 +1,11 @@
 -- What judging and loading a stored family answers and leaves, step by step. Assumes nothing.
-use Prim.Native.Nat.{ℕ, _+_, _*_, _≤_}
+use Prim.Native.Nat.{ℕ, _+_, _*_}
 use native.Mathlib.Omega.{arith}
 use mathlib.Core.Path.{_≡_, refl, sym, ap, subst, _∙_}
-use mathlib.Core.List.{List, [], _++_, append-nil}
+use mathlib.Core.List.{List, [], append-nil}
 use lib.ListN.{length}
-use lib.Dec.{T}
 use Rattle.trees.specs.Tables.{Pair, pair}
-use Rattle.trees.specs.Sound.{SoundSpecies, Sound}
+use Rattle.trees.specs.Sound.{Sound}
 use Rattle.trees.specs.Rulings.{Ruling, accepted, refused, Rule, ruling, fine, verdict}
 use Rattle.trees.specs.Rules.{sized, familyRules}
 use Rattle.trees.proofs.Rulings.{ruling-all, ruling-stays, ruling-accepted, ruling-passes}
@@ -15,13 +14,14 @@ use Rattle.histories.specs.Histories.{History, told, everyNode}
 use Rattle.histories.specs.Rules.{descentRules, OfferCounts, offerCounts}
 use Rattle.blocks.specs.Blocks.{count, content}
 use Rattle.blocks.proofs.Blocks.{length-contents}
-use Rattle.families.specs.Families.{Family, speciesCount, geneCount, familyOf}
-use Rattle.families.specs.Loading.{Lent, storedPair, storedHistory, storyRules, contentsOf, Contents, Loading}
+use Rattle.families.specs.Families.{Family, speciesCount, familyOf}
+use Rattle.families.specs.Loading.{Lent, storedPair, storedHistory, storyRules, contentsOf, Loading}
 use Rattle.families.proofs.Families.{length-parents, length-genes, even-family}
 use Rattle.families.proofs.Opened.{Opened, opened-is, words-room}
 use Rattle.families.proofs.Loaded.{stored-sized}
-use Rattle.images.specs.Conditions.{EvenLent, GenesRoom, Tellable, Loadable}
-use Rattle.images.specs.Outcomes.{lent, genesAt, clearedAll, storyAfter, storyOutcome}
+use Rattle.images.specs.Conditions.{GenesRoom, Tellable, Loadable}
+use Rattle.images.specs.Judging.{tableRules, storedRules}
+use Rattle.images.specs.Outcomes.{lent, genesAt, clearedAll, storyOutcome}
 
 -- ---- the gene rules, then the rules of descent
 
@@ -108,6 +108,10 @@ module _ (sp st s : List ℕ) (t : Lent) (k : Loadable sp st s t) where
 
     pub read-tellable : Tellable sp st r
     read-tellable = subst (Tellable sp st) (sym (tables-read r e)) tables-tellable
+
+    -- the same rules, of the stored family
+    pub read-rules : tableRules sp st r ≡ storedRules sp st s
+    read-rules = ap (tableRules sp st) (tables-read r e)
 
     -- the same judgement, of the stored family
     of-family : (x : Ruling OfferCounts) → ruling (storyRules u l) (offerCounts u l) ≡ x → ruling (storyRules (w sp st (familyOf (content s))) (h sp st (familyOf (content s)))) (offerCounts (w sp st (familyOf (content s))) (h sp st (familyOf (content s)))) ≡ x

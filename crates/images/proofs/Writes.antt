@@ -2,22 +2,21 @@
 use Prim.Native.Nat.{ℕ, _*_, _<_, _≤_}
 use native.Mathlib.Omega.{arith}
 use mathlib.Core.Path.{_≡_, refl, sym, ap, _∙_}
-use mathlib.Core.List.{List, [], _∷_, _++_}
+use mathlib.Core.List.{List, [], _++_}
 use lib.ListN.{length, take, drop}
 use lib.Seq.{length-take-le}
-use lib.Dec.{leb}
 use borrow.Author.Tests.{lt-leb}
 use Rattle.trees.specs.Tables.{Pair}
 use Rattle.trees.specs.Lent.{replaced}
-use Rattle.trees.specs.Rulings.{Ruling, accepted, refused, whole, ruling, numberOf, treeOf}
+use Rattle.trees.specs.Rulings.{accepted, refused, ruling, numberOf, treeOf}
 use Rattle.trees.proofs.Rulings.{ruling-all, ruling-stays, ruling-fail, ruling-accepted}
 use Rattle.histories.specs.Histories.{told}
 use Rattle.histories.specs.Rules.{offerRules, OfferCounts, offerCounts, offerRuling}
 use Rattle.histories.proofs.Accepted.{Offered, offer-accepted}
-use Rattle.blocks.specs.Image.{fewest, imageOf}
+use Rattle.blocks.specs.Image.{fewest}
 use Rattle.blocks.proofs.Image.{length-image}
 use Rattle.families.specs.Families.{Family, familyWords, wordCount, Even}
-use Rattle.families.specs.Writing.{storedFamily, familyImage, writeRules, Writing, write}
+use Rattle.families.specs.Writing.{storedFamily, familyImage, writeRules, write}
 use Rattle.families.proofs.Families.{length-words}
 use Rattle.families.proofs.Loaded.{Written, write-leaves}
 use Rattle.images.specs.Conditions.{ImageRoom}

@@ -17,6 +17,7 @@ use crate::open;
 use crate::open::Opened;
 use crate::tables;
 use judges::Judged;
+use judges::homes;
 use offers::Offered;
 use trees::Refusal;
 
@@ -45,7 +46,14 @@ fn judge_story(
     requires { ⌜ Tellable (now «species_parents») (now «species_taxa») (lent (now «gene_parents») (now «gene_taxa») (now places) (now labels)) ⌝ }
     ensures { λ r. ⌜ offeredOf r ≡ ruling (storyRules (pair (now («species_parents» .entry)) (now («species_taxa» .entry)) (now («gene_parents» .entry)) (now («gene_taxa» .entry))) (told (now (places .entry)) (now (labels .entry)))) (offerCounts (pair (now («species_parents» .entry)) (now («species_taxa» .entry)) (now («gene_parents» .entry)) (now («gene_taxa» .entry))) (told (now (places .entry)) (now (labels .entry)))) ⌝ }
 {
-    let judged = judges::judge_family(species_parents, species_taxa, gene_parents, gene_taxa);
+    let homed = homes::all_homed(species_taxa, gene_taxa, places);
+    let judged = judges::judge_family(
+        species_parents,
+        species_taxa,
+        gene_parents,
+        gene_taxa,
+        homed,
+    );
     if let Judged::Refused(r) = judged {
         return Offered::Refused(r);
     }

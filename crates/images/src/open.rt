@@ -1,7 +1,5 @@
 // Opening an image on a rack: the rack's species 1 to 5, then 13 to 18. Nothing is lent.
 ghost use mathlib.Core.Path.{_≡_};
-ghost use Prim.Native.Nat.{_≤_};
-ghost use lib.ListN.{length};
 ghost use Rattle.trees.specs.Rulings.{ruling};
 ghost use Rattle.blocks.specs.Blocks.{count, content};
 ghost use Rattle.families.specs.Families.{geneCount};

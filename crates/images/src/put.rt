@@ -2,10 +2,9 @@
 ghost use mathlib.Core.Path.{_≡_};
 ghost use Prim.Native.Nat.{_+_, _*_, _≤_};
 ghost use mathlib.Core.List.{_++_};
-ghost use lib.ListN.{length};
 ghost use Rattle.blocks.specs.Halves.{lowHigh};
 ghost use Rattle.blocks.specs.Image.{fewest};
-ghost use Rattle.words.specs.Words.{puts, Within};
+ghost use Rattle.words.specs.Words.{puts};
 ghost use Rattle.families.specs.Families.{family, wordCount, tablesOf};
 ghost use Rattle.families.specs.Writing.{familyImage};
 ghost use Rattle.images.specs.Conditions.{TreeRoom, StoryRoom, TablesRoom, ImageRoom};

@@ -1,23 +1,23 @@
 -- What each search of a judge means for its ruling. Assumes nothing.
 use Prim.Native.Nat.{ℕ, _≤_, _<_}
 use native.Mathlib.Omega.{arith}
-use mathlib.Core.Path.{_≡_, refl, sym, ap, _∙_}
-use mathlib.Core.Bool.{Bool, true, false}
+use mathlib.Core.Path.{_≡_, refl, ap, _∙_}
+use mathlib.Core.Bool.{false}
 use mathlib.Core.List.{List, [], _∷_, _++_}
-use lib.ListN.{length}
+use lib.ListN.{length, getD}
 use lib.Dec.{T}
 use Rattle.trees.specs.Lists.{lowest}
-use Rattle.trees.specs.Rulings.{Ruling, accepted, refused, Rule, whole, each, ruling, verdict, fine, numberOf, treeOf, Passes, Fails, Every, done, and}
+use Rattle.trees.specs.Rulings.{accepted, refused, whole, each, ruling, verdict, fine, numberOf, treeOf, Passes, Every}
 use Rattle.trees.specs.Tables.{Pair}
-use Rattle.trees.specs.Sound.{SoundTree, SoundSpecies, Sound}
+use Rattle.trees.specs.Sound.{SoundTree, SoundSpecies}
 use Rattle.trees.specs.Rules.{sized, ordered, paired, marked, fresh, known, shapeRules, speciesRules, familyRules, geneRules, pairRules}
-use Rattle.trees.proofs.Bools.{true-T}
-use Rattle.trees.proofs.Lists.{lowest-same}
+use Rattle.trees.proofs.Lists.{lowest-same, lowest-none}
 use Rattle.trees.proofs.Rulings.{ruling-pass, ruling-fail, ruling-all, ruling-stays, ruling-accepted, each-fails, each-passes}
-use Rattle.trees.proofs.Judged.{Sized, sized-is, tree-sound, species-sound, species-accepted}
+use Rattle.trees.proofs.Judged.{sized-is, tree-sound, species-sound, species-accepted}
 use Rattle.judges.specs.Counts.{Counted, Shaped}
-use Rattle.judges.specs.Searches.{pairedCount, markedCount, freshTaxon, knownTaxon}
-use Rattle.judges.proofs.Tests.{paired-same, marked-same, fresh-same, known-same}
+use Rattle.judges.specs.Searches.{pairedCount, markedCount, wantedCount, freshTaxon, knownTaxon}
+use Rattle.judges.specs.Homes.{AllKnown}
+use Rattle.judges.proofs.Tests.{paired-same, marked-same, wanted-paired, wanted-marked, fresh-same, known-same}
 
 module _ (t : ℕ) (par tax : List ℕ) (z : T (sized par tax)) where
   pub shape-2 : (v : ℕ) → v ≡ lowest (ordered par) (length par) → v < length par → verdict (shapeRules t par tax) ≡ refused 2 t v
@@ -38,6 +38,15 @@ module _ (t : ℕ) (par tax : List ℕ) (z : T (sized par tax)) where
     pub shape-3 : (v : ℕ) → v ≡ lowest (pairedCount counts) (length par) → v < length par → verdict (shapeRules t par tax) ≡ refused 3 t v
     unfolding numberOf treeOf
     shape-3 v e l = past-2 ∙ ruling-fail (each 3 t (length par) (paired par)) _ fine v (each-fails 3 t (length par) (paired par) v (as-3 v e) l)
+
+    -- every node has as many children as its taxon wants
+    pub shape-wanted : ((k : ℕ) → k < length tax → getD counts k 0 ≡ wantedCount (getD tax k 0)) → verdict (shapeRules t par tax) ≡ accepted fine
+    unfolding ruling
+    shape-wanted f =
+        let ev : length tax ≡ length par = (sized-is par tax z) .even in
+        past-2
+        ∙ ruling-pass (each 3 t (length par) (paired par)) (each 4 t (length par) (marked par tax) ∷ []) fine (λ k h. rw (paired-same C k h) at (wanted-paired counts tax k (f k (omega arith))))
+        ∙ ruling-pass (each 4 t (length par) (marked par tax)) [] fine (λ k h. rw (marked-same C tax k h) at (wanted-marked counts tax k (f k (omega arith))))
 
     as-4 : (v : ℕ) → v ≡ lowest (markedCount counts tax) (length tax) → v ≡ lowest (marked par tax) (length par)
     as-4 v e = e ∙ ap (λ n. lowest (markedCount counts tax) n) ((sized-is par tax z) .even) ∙ lowest-same (markedCount counts tax) (marked par tax) (length par) (marked-same C tax)
@@ -121,6 +130,10 @@ module _ (w : Pair) (S : SoundTree (w .sp) (w .st)) (z : T (sized (w .gp) (w .gt
     unfolding ruling
     family-right v e l =
         past-gene-4 ∙ ruling-pass (each 6 2 (length (w .gp)) (known w)) [] fine (each-passes 6 2 (length (w .gp)) (known w) v (as-6 v e) (omega (arith, (sized-is (w .gp) (w .gt) z) .even)))
+
+    -- each gene taxon was found before
+    pub family-known : AllKnown (w .st) (w .gt) → verdict (familyRules w) ≡ accepted fine
+    family-known K = family-right (lowest (knownTaxon (w .st) (w .gt)) (length (w .gt))) refl (omega (arith, lowest-none (knownTaxon (w .st) (w .gt)) (length (w .gt)) (K .known)))
 
 -- ---- both
 

@@ -1,45 +1,52 @@
 -- The tests of rules 3 to 6 as the code makes them are the rules' own. Assumes nothing.
-use Prim.Native.Nat.{ℕ, _+_, _≤_, _<_}
+use Prim.Native.Nat.{ℕ, _<_}
 use native.Mathlib.Omega.{arith}
-use native.Mathlib.Decide.{ℕ-discrete, decLt}
-use mathlib.Core.Path.{_≡_, refl, sym, ap, ap₂, _∙_}
+use native.Mathlib.Decide.{ℕ-discrete}
+use mathlib.Core.Path.{_≡_, sym, _∙_}
 use mathlib.Core.Logic.{_⊎_, inl, inr, _≢_}
-use mathlib.Core.Bool.{Bool, true, false, _&&_, _||_, not}
+use mathlib.Core.Bool.{Bool, not}
 use mathlib.Core.List.{List}
 use lib.ListN.{length, getD, take}
 use lib.Seq.{length-take-le, getD-take}
 use lib.Dec.{T, eqb, ltb, eqb→eq, eqb-refl, ltb→lt, lt→ltb}
-use borrow.Author.Tests.{eq-eqb, ne-eqb, not-true, not-false}
+use borrow.Author.Tests.{eq-eqb, ne-eqb, not-false}
 use Rattle.trees.specs.Lists.{lowest}
 use Rattle.trees.specs.Rulings.{pick}
-use Rattle.trees.specs.Trees.{kids, Leaf, Inner, isLeaf}
+use Rattle.trees.specs.Trees.{Leaf, isLeaf}
 use Rattle.trees.specs.Tables.{taxon, Pair}
 use Rattle.trees.specs.Sound.{SoundTree}
 use Rattle.trees.specs.Rules.{paired, marked, fresh, known}
-use Rattle.trees.proofs.Bools.{or-left, or-right, or-cases, test, true-T, T-true, T-same}
+use Rattle.trees.proofs.Bools.{or-left, or-right, or-cases, true-T, T-same}
 use Rattle.trees.proofs.Lists.{lowest-cases}
 use Rattle.trees.proofs.Judged.{fresh-is, is-fresh, known-is, is-known}
-use Rattle.trees.proofs.Sound.{leaf-is}
-use Rattle.judges.specs.Counts.{capped, Counted}
-use Rattle.judges.specs.Searches.{pairedCount, markedCount, taxonAt, freshTaxon, knownTaxon}
-use Rattle.judges.proofs.Counting.{capped-low, capped-high}
-
--- a capped count is 0, or 2, where the count is
-capped-is : (k m : ℕ) → m < 3 → eqb (capped k) m ≡ eqb k m
-capped-is k m h =
-    elim (decLt k 4) [
-      | yes l ↦ rw (capped-low k (omega arith))
-      | no l ↦ rw (capped-high k (omega arith), ne-eqb 3 m (omega arith), ne-eqb k m (omega arith))
-    ]
+use Rattle.judges.specs.Counts.{Counted}
+use Rattle.judges.specs.Searches.{pairedCount, markedCount, wantedCount, taxonAt, freshTaxon, knownTaxon}
 
 module _ {par counts : List ℕ} (C : Counted par counts) where
   pub paired-same : (i : ℕ) → i < length par → pairedCount counts i ≡ paired par i
   unfolding pairedCount paired
-  paired-same i h = rw (C .count i h, capped-is (length (kids par i)) 0 (omega arith), capped-is (length (kids par i)) 2 (omega arith))
+  paired-same i h = rw (C .count i h)
 
   pub marked-same : (tax : List ℕ) (i : ℕ) → i < length par → markedCount counts tax i ≡ marked par tax i
   unfolding markedCount marked isLeaf
-  marked-same tax i h = rw (C .count i h, capped-is (length (kids par i)) 0 (omega arith))
+  marked-same tax i h = rw (C .count i h)
+
+-- a node with as many children as its taxon wants keeps rules 3 and 4
+pub wanted-paired : (counts tax : List ℕ) (i : ℕ) → getD counts i 0 ≡ wantedCount (getD tax i 0) → T (pairedCount counts i)
+unfolding pairedCount wantedCount pick
+wanted-paired counts tax i e =
+    elim (ℕ-discrete (getD tax i 0) 0) [
+      | yes z ↦ rw (e, eq-eqb (getD tax i 0) 0 z) tt
+      | no z ↦ rw (e, ne-eqb (getD tax i 0) 0 z) tt
+    ]
+
+pub wanted-marked : (counts tax : List ℕ) (i : ℕ) → getD counts i 0 ≡ wantedCount (getD tax i 0) → T (markedCount counts tax i)
+unfolding markedCount wantedCount pick
+wanted-marked counts tax i e =
+    elim (ℕ-discrete (getD tax i 0) 0) [
+      | yes z ↦ rw (e, eq-eqb (getD tax i 0) 0 z) tt
+      | no z ↦ rw (e, ne-eqb (getD tax i 0) 0 z) tt
+    ]
 
 -- where a taxon is found, and where not
 pub taxon-cases : (tax : List ℕ) (t : ℕ)

@@ -1,3 +1,5 @@
 pub mod Answers
 pub mod Counts
 pub mod Searches
+pub mod Chains
+pub mod Homes

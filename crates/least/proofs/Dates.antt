@@ -1,9 +1,8 @@
 -- Dating by the tables of the least history: the climb to the nearest speciation. Assumes nothing.
 use Prim.Native.Nat.{ℕ, _≤_, _<_}
 use native.Mathlib.Omega.{arith}
-use mathlib.Core.Path.{_≡_, refl, sym, ap, ap₂, _∙_}
+use mathlib.Core.Path.{_≡_, sym, ap, _∙_}
 use mathlib.Core.Logic.{_≢_}
-use mathlib.Core.Bool.{Bool}
 use mathlib.Core.List.{List}
 use lib.ListN.{length, getD}
 use lib.Dec.{eqb}
@@ -11,15 +10,14 @@ use borrow.Author.Tests.{eq-eqb, ne-eqb}
 use Rattle.trees.specs.Lists.{first}
 use Rattle.trees.specs.Trees.{none, up, line}
 use Rattle.trees.specs.Tables.{Pair}
-use Rattle.trees.specs.Sound.{Treelike, Sound}
+use Rattle.trees.specs.Sound.{Treelike}
 use Rattle.trees.proofs.Lists.{first-yes, first-no}
 use Rattle.trees.proofs.Lines.{up-at, line-in, line-out}
 use Rattle.trees.proofs.Sound.{rooted, trees}
 use Rattle.histories.specs.Places.{place}
 use Rattle.histories.specs.Histories.{label}
-use Rattle.histories.specs.Dating.{Dated, notDuplication, from, between, latest, dated}
+use Rattle.histories.specs.Dating.{notDuplication, from, between, latest, dated}
 use Rattle.histories.proofs.Dating.{dated-not, dated-from, dated-between}
-use Rattle.least.specs.Filling.{Filled}
 use Rattle.least.specs.Answers.{Told}
 
 -- the first speciation on the line of u

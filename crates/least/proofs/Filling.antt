@@ -1,18 +1,17 @@
 -- One turn of the fill, whichever it is, and that at the end every place and label is the least history's. Assumes nothing.
-use Prim.Native.Nat.{ℕ, suc, _+_, _≤_, _<_}
+use Prim.Native.Nat.{ℕ, _+_, _≤_, _<_}
 use native.Mathlib.Omega.{arith}
-use native.Mathlib.Decide.{ℕ-discrete, decLt}
-use mathlib.Core.Path.{_≡_, refl, sym, ap, _∙_, subst}
+use native.Mathlib.Decide.{ℕ-discrete}
+use mathlib.Core.Path.{_≡_, refl, sym, ap, _∙_}
 use mathlib.Core.Logic.{_⊎_, inl, inr, _≢_}
 use mathlib.Core.Bool.{Bool, true, false, _||_}
 use mathlib.Core.List.{List}
 use lib.ListN.{length, getD, set, length-set}
 use lib.Seq.{getD-set-same, getD-set-other}
 use lib.Dec.{eqb}
-use borrow.Author.Tests.{eq-eqb, ne-eqb}
 use Rattle.trees.specs.Rulings.{pick}
-use Rattle.trees.specs.Trees.{none, up, kid, Below, here, Leaf, Inner, Meet}
-use Rattle.trees.specs.Tables.{Pair, home, taxon}
+use Rattle.trees.specs.Trees.{none, up, kid, here, Leaf, Inner, Meet}
+use Rattle.trees.specs.Tables.{Pair, home}
 use Rattle.trees.specs.Sound.{Sound}
 use Rattle.trees.proofs.Lines.{up-at, from-kids}
 use Rattle.trees.proofs.Kids.{kids-has, none-has, kid-first, kid-second, kid-order, either-kid, not-over}
@@ -22,7 +21,7 @@ use Rattle.histories.specs.Places.{place}
 use Rattle.histories.specs.Histories.{label}
 use Rattle.histories.proofs.Places.{place-leaf, place-node, place-meet}
 use Rattle.histories.proofs.Labels.{label-leaf, label-inner, label-cases}
-use Rattle.least.specs.Filling.{Done, Arrived, Right, Half, Filling, kindOf, Filled}
+use Rattle.least.specs.Filling.{Done, Arrived, Half, Filling, kindOf, Filled}
 
 -- one entry of a table changed
 record Put (old new : List ℕ) (u x : ℕ) : Type 0 where

@@ -2,12 +2,19 @@
 use Prim.Native.Nat.{ℕ}
 use native.Mathlib.Omega.{arith}
 use mathlib.Core.Path.{_≡_, refl, sym, ap, _∙_}
-use Rattle.trees.specs.Rulings.{Ruling, accepted}
+use mathlib.Core.List.{List}
+use Rattle.trees.specs.One.{Single}
+use Rattle.trees.specs.Tables.{Pair}
+use Rattle.trees.specs.Sound.{Treelike}
+use Rattle.trees.specs.Trees.{Meet}
 use Rattle.trees.specs.declared.SpeciesNode.{SpeciesNode}
+use Rattle.trees.proofs.One.{single-value, single-view, three}
 use Rattle.trees.proofs.Rulings.{refusal-one}
 use Rattle.trees.proofs.Meets.{meet-one}
-use Rattle.histories.specs.Rules.{Counts}
-use Rattle.least.specs.Answers.{countsOf, leastOf, datedOf, datingOf}
+use Rattle.trees.proofs.Sound.{rooted}
+use Rattle.histories.specs.Rules.{Counts, datingRuling}
+use Rattle.histories.specs.Histories.{cost}
+use Rattle.least.specs.Answers.{countsOf, leastOf, Outcome, leastOutcome, datedOf, datingOf}
 use Rattle.least.specs.declared.LeastCounts.{LeastCounts}
 use Rattle.least.specs.declared.LeastAnswer.{LeastAnswer}
 use Rattle.least.specs.declared.LeastAnswer.the-variants.{Done, Refused}
@@ -49,3 +56,20 @@ dating-one (dating.Dated a) (dating.Dated b) e = let q : datedOf a ≡ datedOf b
 dating-one (dating.Dated a) (dating.Refused s) e = let z : _≡_ {A = ℕ} 0 1 = cc in absurd (omega arith)
 dating-one (dating.Refused r) (dating.Dated b) e = let z : _≡_ {A = ℕ} 0 1 = cc in absurd (omega arith)
 dating-one (dating.Refused r) (dating.Refused s) e = ap dating.Refused (refusal-one r s e)
+
+-- ---- one theorem for each public function
+
+pub join-one : (sp : List ℕ) → Treelike sp → (a b : ℕ) → Single (λ (r : SpeciesNode). Meet sp a b (r .0))
+join-one sp T a b r s p q = node-one r s (meet-one (rooted (T .1) .ground) p q)
+
+pub cost-one : (dw lw duplications losses : ℕ) → Single (λ (r : ℕ). r ≡ cost dw lw duplications losses)
+cost-one dw lw duplications losses = single-value (cost dw lw duplications losses)
+
+pub least-history-one : (w : Pair) (places labels : List ℕ) (dw lw : ℕ)
+    → Single (λ (r : LeastAnswer × List ℕ × List ℕ). _≡_ {A = Outcome} (record { answer = leastOf (r .0); places = r .1; labels = r .2 }) (leastOutcome w places labels dw lw))
+least-history-one w places labels dw lw a b p q =
+    let e = p ∙ sym q in
+    three a b (least-one (a .0) (b .0) (ap (λ (o : Outcome). o .answer) e)) (ap (λ (o : Outcome). o .places) e) (ap (λ (o : Outcome). o .labels) e)
+
+pub date-one : (w : Pair) (v : ℕ) → Single (λ (r : DatingAnswer). datingOf r ≡ datingRuling w v)
+date-one w v = single-view datingOf dating-one (datingRuling w v)

@@ -1,30 +1,28 @@
 -- What each way through the least history and through dating answers and leaves. Assumes nothing.
 use Prim.Native.Nat.{ℕ, _≤_, _<_}
-use native.Mathlib.Omega.{arith}
-use mathlib.Core.Path.{_≡_, refl, sym, ap, _∙_}
-use mathlib.Core.Bool.{Bool, true, false}
-use mathlib.Core.List.{List, [], _∷_, _++_}
-use lib.ListN.{length, getD, drop}
-use lib.Dec.{T, ltb, leb}
+use mathlib.Core.Path.{_≡_, refl, sym, _∙_}
+use mathlib.Core.Bool.{false}
+use mathlib.Core.List.{List, [], _∷_}
+use lib.ListN.{length}
+use lib.Dec.{ltb}
 use borrow.Author.Tests.{le-ltb}
-use Rattle.trees.specs.Rulings.{Ruling, accepted, refused, Rule, whole, ruling, verdict, fine, numberOf, treeOf, Passes, Every}
+use Rattle.trees.specs.Rulings.{accepted, refused, whole, verdict, fine, numberOf, treeOf}
 use Rattle.trees.specs.Tables.{Pair}
 use Rattle.trees.specs.Sound.{Sound}
 use Rattle.trees.specs.Rules.{pairRules}
 use Rattle.trees.specs.Lent.{replaced}
 use Rattle.trees.proofs.Rulings.{ruling-fail, ruling-all, ruling-stays, ruling-accepted}
-use Rattle.trees.proofs.Judged.{pair-sound, pair-accepted}
+use Rattle.trees.proofs.Judged.{pair-accepted}
 use Rattle.trees.proofs.Lent.{replaced-is}
-use Rattle.histories.specs.Histories.{History, told, Agree, least, everyNode, leastPlaces, leastLabels, lossesIn, climbsIn, climbs, duplications, speciations, cost}
-use Rattle.histories.specs.Legal.{Legal}
-use Rattle.histories.specs.Dating.{Dated, dated}
+use Rattle.histories.specs.Histories.{told, Agree, least, leastPlaces, leastLabels, climbs, duplications, speciations, cost}
+use Rattle.histories.specs.Dating.{dated}
 use Rattle.histories.specs.Rules.{roomy, leastRules, datingRules, Counts, leastCounts, leastRuling, datingRuling}
 use Rattle.histories.proofs.Tables.{length-places, length-labels, getD-places, getD-labels}
 use Rattle.histories.proofs.Accepted.{history-accepted, dating-accepted}
 use Rattle.histories.proofs.Legal.{least-legal, legal-agree}
 use Rattle.counts.specs.Tallies.{Counted, historyTally, Story}
 use Rattle.counts.proofs.Tallying.{tally-agree}
-use Rattle.least.specs.Filling.{Filled, FilledFrom}
+use Rattle.least.specs.Filling.{FilledFrom}
 use Rattle.least.specs.Answers.{Outcome, onAccepted, leastOutcome}
 
 module _ {w : Pair} (S : Sound w) {p p′ l l′ : List ℕ} (F : FilledFrom w p p′ l l′) where

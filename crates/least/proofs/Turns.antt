@@ -2,23 +2,22 @@
 use Prim.Native.Nat.{ℕ, _+_, _≤_, _<_}
 use native.Mathlib.Omega.{arith}
 use native.Mathlib.Decide.{ℕ-discrete}
-use mathlib.Core.Path.{_≡_, refl, sym, ap, _∙_}
-use mathlib.Core.Logic.{_⊎_, inl, inr, _≢_}
-use mathlib.Core.Bool.{true}
+use mathlib.Core.Path.{_≡_, refl, sym, _∙_}
+use mathlib.Core.Logic.{inl, inr, _≢_}
 use mathlib.Core.List.{List}
-use lib.ListN.{length, getD, set, drop, length-set}
+use lib.ListN.{length, getD, set, length-set}
 use lib.Seq.{drop-set-lt, getD-set-same, getD-set-other}
 use Rattle.trees.specs.Lists.{one}
 use Rattle.trees.specs.Trees.{none, up, Leaf, Inner, depth}
 use Rattle.trees.specs.Tables.{Pair, home, taxon}
-use Rattle.trees.specs.Sound.{SoundTree, Sound}
+use Rattle.trees.specs.Sound.{Sound}
 use Rattle.trees.proofs.Lines.{up-at}
 use Rattle.trees.proofs.Sound.{trees, home-is, home-one}
 use Rattle.histories.specs.Histories.{everyNode}
 use Rattle.histories.proofs.Leaves.{depth-up}
 use Rattle.judges.specs.Searches.{taxonAt}
 use Rattle.judges.proofs.Tests.{taxon-cases, tax-leaf}
-use Rattle.least.specs.Filling.{Filling, Kept, kindOf, Filled, Ready, Finished, Rising, Risen, Marked, Taking, Fillable, FilledFrom}
+use Rattle.least.specs.Filling.{Filling, Kept, kindOf, Ready, Finished, Rising, Risen, Marked, Taking, Fillable, FilledFrom}
 use Rattle.least.proofs.Filling.{fill-start, fill-leaf, fill-inner, fill-root, fill-half, fill-done, fill-end, second, second-in}
 
 pub kept-self : (q : ℕ) (l : List ℕ) → Kept q l l

@@ -1,14 +1,14 @@
 // The least history of a gene tree on a species tree, its cost, and the dating of a gene node.
 ghost use mathlib.Core.Path.{_≡_};
-ghost use Prim.Native.Nat.{ℕ, _≤_, _<_};
-ghost use lib.ListN.{length, getD};
-ghost use Rattle.trees.specs.Trees.{none, Meet};
+ghost use Prim.Native.Nat.{_≤_, _<_};
+ghost use lib.ListN.{length};
+ghost use Rattle.trees.specs.Trees.{Meet};
 ghost use Rattle.trees.specs.Tables.{Pair, pair};
-ghost use Rattle.trees.specs.Sound.{Treelike, Sound};
+ghost use Rattle.trees.specs.Sound.{Treelike};
 ghost use Rattle.histories.specs.Histories.{cost as costOf};
 ghost use Rattle.histories.specs.Dating.{dated};
 ghost use Rattle.histories.specs.Rules.{datingRuling};
-ghost use Rattle.least.specs.Filling.{Filling, Filled, Kept, kindOf, Ready, Finished, Rising, Risen, Marked, Taking, Fillable, FilledFrom};
+ghost use Rattle.least.specs.Filling.{kindOf, Ready, Finished, Rising, Risen, Marked, Taking, Fillable, FilledFrom};
 ghost use Rattle.least.specs.Answers.{leastOf, Outcome, leastOutcome, Datable, Told, datedOf, datingOf};
 use judges::Judged;
 use trees::GeneNode;

@@ -1,29 +1,30 @@
 -- What each search of the judge means for its ruling. Assumes nothing.
 use Prim.Native.Nat.{ℕ, _≤_, _<_}
 use native.Mathlib.Omega.{arith}
+use native.Mathlib.Decide.{ℕ-discrete}
 use mathlib.Core.Path.{_≡_, refl, sym, ap, _∙_}
-use mathlib.Core.Bool.{Bool, true, false}
-use mathlib.Core.List.{List, [], _∷_, _++_}
+use mathlib.Core.Bool.{false}
+use mathlib.Core.List.{List, [], _∷_}
 use lib.ListN.{length, getD, replicate}
-use lib.Dec.{T}
-use borrow.Author.Tests.{le-leb, lt-leb}
+use borrow.Author.Tests.{le-leb, eq-eqb}
 use Rattle.trees.specs.Lists.{lowest}
-use Rattle.trees.specs.Rulings.{Ruling, accepted, refused, Rule, whole, each, ruling, verdict, fine, numberOf, treeOf, Passes, Every, done, and}
-use Rattle.trees.specs.Tables.{Pair}
+use Rattle.trees.specs.Rulings.{Ruling, accepted, refused, Rule, whole, each, ruling, verdict, Fine, fine, numberOf, treeOf, Passes, Every, done, and}
+use Rattle.trees.specs.Tables.{Pair, taxon}
 use Rattle.trees.specs.Trees.{Leaf}
-use Rattle.trees.specs.Sound.{Sound}
 use Rattle.trees.specs.Rules.{pairRules}
-use Rattle.trees.proofs.Lists.{lowest-same}
-use Rattle.trees.proofs.Rulings.{ruling-pass, ruling-fail, ruling-all, ruling-stays, ruling-accepted, each-fails, each-passes}
+use Rattle.trees.proofs.Bools.{true-T}
+use Rattle.trees.proofs.Lists.{lowest-same, lowest-none}
+use Rattle.trees.proofs.Rulings.{ruling-pass, ruling-fail, ruling-all, ruling-stays, ruling-accepted, ruling-passes, each-fails, each-passes}
 use Rattle.trees.proofs.Judged.{pair-accepted}
 use Rattle.histories.specs.Histories.{History, told, everyNode}
-use Rattle.histories.specs.Legal.{Legal}
-use Rattle.histories.specs.Rules.{roomy, fitting, homed, nested, parted, placed, rightKind, descentRules, offerRules, OfferCounts, offerCounts, offerRuling}
-use Rattle.histories.proofs.Judged.{descent-legal, placed-is, right-kind-leaf, fitting-is}
+use Rattle.histories.specs.Rules.{roomy, fitting, homed, nested, parted, placed, descentRules, offerRules, OfferCounts, offerCounts, offerRuling}
+use Rattle.histories.proofs.Judged.{descent-legal, placed-is, right-kind-leaf, fitting-is, nested-is, parted-is}
 use Rattle.counts.specs.Tallies.{Counted, historyTally, Story}
-use Rattle.offers.specs.Sides.{Sided}
-use Rattle.offers.specs.Tests.{fittingBy, homedBy, nestedBy, partedBy, Placed, Nesting, Nested}
+use Rattle.judges.specs.Homes.{Homed}
+use Rattle.offers.specs.Tests.{fittingBy, homedBy, nestedBy, partedBy, Placed, Fitting, Nesting, Nested}
+use Rattle.offers.specs.Codes.{Quick, Nests}
 use Rattle.offers.specs.Answers.{Offerable}
+use Rattle.offers.proofs.Steps.{homed-inner, homed-leaf}
 use Rattle.offers.proofs.Tests.{fitting-same, homed-same, nested-same, parted-same}
 
 module _ {w : Pair} {pl lb : List ℕ} (O : Offerable w pl lb) where
@@ -33,8 +34,8 @@ module _ {w : Pair} {pl lb : List ℕ} (O : Offerable w pl lb) where
   abbrev q : ℕ
   q = length (w .gp)
 
-  abbrev all : Ruling OfferCounts
-  all = ruling (descentRules w everyNode h) (offerCounts w h)
+  abbrev all : Ruling Fine
+  all = verdict (descentRules w everyNode h)
 
   abbrev rule8 : Rule
   rule8 = each 8 2 q (fitting w everyNode h)
@@ -51,6 +52,16 @@ module _ {w : Pair} {pl lb : List ℕ} (O : Offerable w pl lb) where
   even : length (w .gt) ≡ length (w .gp)
   even = O .sound .genes .even
 
+  pub fitting-here : (length (w .sp) ≤ 2047) × Fitting (w .gt) pl lb
+  fitting-here = (
+    O .sound .species .tree .few,
+    record {
+      few = omega (arith, even, O .sound .genes .few);
+      places-room = omega (arith, even, O .places-room);
+      labels-room = omega (arith, even, O .labels-room);
+    },
+  )
+
   as-8 : (v : ℕ) → v ≡ lowest (fittingBy (length (w .sp)) (w .gt) pl lb) (length (w .gt)) → v ≡ lowest (fitting w everyNode h) q
   as-8 v e =
       e ∙ ap (λ n. lowest (fittingBy (length (w .sp)) (w .gt) pl lb) n) even
@@ -58,7 +69,7 @@ module _ {w : Pair} {pl lb : List ℕ} (O : Offerable w pl lb) where
 
   pub descent-8 : (v : ℕ) → v ≡ lowest (fittingBy (length (w .sp)) (w .gt) pl lb) (length (w .gt)) → v < q → all ≡ refused 8 2 v
   unfolding descentRules numberOf treeOf
-  descent-8 v e l = ruling-fail rule8 _ (offerCounts w h) v (each-fails 8 2 q (fitting w everyNode h) v (as-8 v e) l)
+  descent-8 v e l = ruling-fail rule8 _ fine v (each-fails 8 2 q (fitting w everyNode h) v (as-8 v e) l)
 
   -- rule 8 has passed
   module _ (a : ℕ) (ea : a ≡ lowest (fittingBy (length (w .sp)) (w .gt) pl lb) (length (w .gt))) (la : q ≤ a) where
@@ -78,9 +89,9 @@ module _ {w : Pair} {pl lb : List ℕ} (O : Offerable w pl lb) where
           inside = λ g l. omega (arith, places-in g (omega (arith, even)), O .sound .species .tree .even);
         }
 
-    past-8 : all ≡ ruling (rule9 ∷ rule10 ∷ rule11 ∷ []) (offerCounts w h)
+    past-8 : all ≡ ruling (rule9 ∷ rule10 ∷ rule11 ∷ []) fine
     unfolding descentRules
-    past-8 = ruling-pass rule8 _ (offerCounts w h) passed-8
+    past-8 = ruling-pass rule8 _ fine passed-8
 
     as-9 : (v : ℕ) → v ≡ lowest (homedBy (w .st) (w .gt) pl) (length (w .gt)) → v ≡ lowest (homed w h) q
     as-9 v e =
@@ -89,41 +100,57 @@ module _ {w : Pair} {pl lb : List ℕ} (O : Offerable w pl lb) where
 
     pub descent-9 : (v : ℕ) → v ≡ lowest (homedBy (w .st) (w .gt) pl) (length (w .gt)) → v < q → all ≡ refused 9 2 v
     unfolding numberOf treeOf
-    descent-9 v e l = past-8 ∙ ruling-fail rule9 _ (offerCounts w h) v (each-fails 9 2 q (homed w h) v (as-9 v e) l)
+    descent-9 v e l = past-8 ∙ ruling-fail rule9 _ fine v (each-fails 9 2 q (homed w h) v (as-9 v e) l)
 
     pub nesting-here : (sides : List ℕ) → sides ≡ replicate 2047 65534 → Nesting (w .sp) (w .gp) pl sides
     nesting-here sides e =
         record { tree = (w .st, O .sound .species .tree); few = O .sound .genes .few; room = O .places-room; placed = places-in; fresh = e }
+
+    pub quick-here : Quick (w .sp) (w .gp) pl lb
+    quick-here =
+        record {
+          species = (w .st, O .sound .species .tree);
+          genes = (w .gt, O .sound .genes);
+          places-room = O .places-room;
+          labels-room = O .labels-room;
+          placed = places-in;
+        }
 
     -- rule 9 has passed
     module _ (b : ℕ) (eb : b ≡ lowest (homedBy (w .st) (w .gt) pl) (length (w .gt))) (lb′ : q ≤ b) where
       passed-9 : Passes rule9
       passed-9 = each-passes 9 2 q (homed w h) b (as-9 b eb) lb′
 
-      past-9 : all ≡ ruling (rule10 ∷ rule11 ∷ []) (offerCounts w h)
-      past-9 = past-8 ∙ ruling-pass rule9 _ (offerCounts w h) passed-9
+      past-9 : all ≡ ruling (rule10 ∷ rule11 ∷ []) fine
+      past-9 = past-8 ∙ ruling-pass rule9 _ fine passed-9
+
+      -- rules 10 and 11 hold everywhere
+      pub descent-quick : Nests (w .sp) (w .gp) pl lb → all ≡ accepted fine
+      descent-quick N =
+          past-9 ∙ ruling-passes (rule10 ∷ rule11 ∷ []) fine
+          (and (λ c l. (nested-is (O .sound) h c) .1 (N .descent c l)) (and (λ g l. (parted-is (O .sound) h g) .1 (N .sides g l)) done))
 
       as-10 : (v : ℕ) → v ≡ lowest (nestedBy (w .sp) (w .gp) pl) q → v ≡ lowest (nested w h) q
       as-10 v e = e ∙ lowest-same (nestedBy (w .sp) (w .gp) pl) (nested w h) q (nested-same (O .sound) pl lb places-in)
 
       pub descent-10 : (v : ℕ) (sides : List ℕ) → Nested (w .sp) (w .gp) pl sides v → v < q → all ≡ refused 10 2 v
       unfolding numberOf treeOf
-      descent-10 v sides N l = past-9 ∙ ruling-fail rule10 _ (offerCounts w h) v (each-fails 10 2 q (nested w h) v (as-10 v (N .found)) l)
+      descent-10 v sides N l = past-9 ∙ ruling-fail rule10 _ fine v (each-fails 10 2 q (nested w h) v (as-10 v (N .found)) l)
 
       -- rule 10 has passed
       module _ (d : ℕ) (sides : List ℕ) (N : Nested (w .sp) (w .gp) pl sides d) (ld : q ≤ d) where
         passed-10 : Passes rule10
         passed-10 = each-passes 10 2 q (nested w h) d (as-10 d (N .found)) ld
 
-        past-10 : all ≡ ruling (rule11 ∷ []) (offerCounts w h)
-        past-10 = past-9 ∙ ruling-pass rule10 _ (offerCounts w h) passed-10
+        past-10 : all ≡ ruling (rule11 ∷ []) fine
+        past-10 = past-9 ∙ ruling-pass rule10 _ fine passed-10
 
         as-11 : (v : ℕ) → v ≡ lowest (partedBy lb sides) q → v ≡ lowest (parted w h) q
         as-11 v e = e ∙ lowest-same (partedBy lb sides) (parted w h) q (parted-same (O .sound) pl lb places-in leaf-kinds sides (N .sided ld))
 
         pub descent-11 : (v : ℕ) → v ≡ lowest (partedBy lb sides) q → v < q → all ≡ refused 11 2 v
         unfolding numberOf treeOf
-        descent-11 v e l = past-10 ∙ ruling-fail rule11 [] (offerCounts w h) v (each-fails 11 2 q (parted w h) v (as-11 v e) l)
+        descent-11 v e l = past-10 ∙ ruling-fail rule11 [] fine v (each-fails 11 2 q (parted w h) v (as-11 v e) l)
 
         pub sides-room : q ≤ length sides
         sides-room = omega (arith, N .sided ld .size, O .sound .genes .few)
@@ -133,19 +160,44 @@ module _ {w : Pair} {pl lb : List ℕ} (O : Offerable w pl lb) where
           passed-11 : Passes rule11
           passed-11 = each-passes 11 2 q (parted w h) f (as-11 f ef) lf
 
-          pub descent-right : all ≡ accepted (offerCounts w h)
+          pub descent-right : all ≡ accepted fine
           unfolding ruling
-          descent-right = past-10 ∙ ruling-pass rule11 [] (offerCounts w h) passed-11
+          descent-right = past-10 ∙ ruling-pass rule11 [] fine passed-11
 
-          pub story-here : Story w pl lb
-          unfolding descentRules
-          story-here =
-              record {
-                sound = O .sound;
-                places-room = O .places-room;
-                labels-room = O .labels-room;
-                legal = (descent-legal (O .sound) everyNode h) .0 (and passed-8 (and passed-9 (and passed-10 (and passed-11 done))));
-              }
+-- ---- the rules judged, then the counts
+
+-- a leaf that is at a species node which carries its taxon is at home
+pub homed-known : (st gt pl : List ℕ) → Homed st gt pl → lowest (homedBy st gt pl) (length gt) ≡ length gt
+homed-known st gt pl H =
+    lowest-none (homedBy st gt pl) (length gt)
+    (λ g l. elim (ℕ-discrete (taxon gt g) 0) [
+      | yes e ↦ true-T (sym (homed-inner st gt pl g e))
+      | no n ↦ true-T (sym (homed-leaf st gt pl g n) ∙ eq-eqb (taxon st (getD pl g 0)) (taxon gt g) (H .home g l n .1))
+    ])
+
+module _ {w : Pair} {pl lb : List ℕ} (O : Offerable w pl lb) where
+  abbrev rules : List Rule
+  rules = descentRules w everyNode (told pl lb)
+
+  pub descent-refused : (n t v : ℕ) → verdict rules ≡ refused n t v → ruling rules (offerCounts w (told pl lb)) ≡ refused n t v
+  unfolding descentRules
+  descent-refused n t v e = ruling-stays rules [] fine (offerCounts w (told pl lb)) n t v e
+
+  module _ (e : verdict rules ≡ accepted fine) where
+    passed : Every Passes rules
+    passed = (ruling-accepted rules fine fine e) .0
+
+    pub descent-accepted : ruling rules (offerCounts w (told pl lb)) ≡ accepted (offerCounts w (told pl lb))
+    descent-accepted = ruling-passes rules (offerCounts w (told pl lb)) passed
+
+    pub story-here : Story w pl lb
+    story-here =
+        record {
+          sound = O .sound;
+          places-room = O .places-room;
+          labels-room = O .labels-room;
+          legal = (descent-legal (O .sound) everyNode (told pl lb)) .0 passed;
+        }
 
 -- the counts from the tally of the tables
 pub offer-counts : (w : Pair) (k : History) (t : Counted) → t ≡ historyTally w k

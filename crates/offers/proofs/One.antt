@@ -2,8 +2,17 @@
 use Prim.Native.Nat.{ℕ}
 use native.Mathlib.Omega.{arith}
 use mathlib.Core.Path.{_≡_, ap}
+use mathlib.Core.List.{List}
+use Rattle.trees.specs.One.{Single}
+use Rattle.trees.specs.Rulings.{ruling, verdict}
+use Rattle.trees.specs.Tables.{Pair}
+use Rattle.trees.proofs.One.{single-view}
 use Rattle.trees.proofs.Rulings.{refusal-one}
-use Rattle.histories.specs.Rules.{OfferCounts}
+use Rattle.histories.specs.Histories.{History, everyNode}
+use Rattle.histories.specs.Rules.{OfferCounts, descentRules, offerCounts, offerRuling}
+use Rattle.judges.specs.Answers.{judgedOf}
+use Rattle.judges.specs.declared.Judged.{Judged}
+use Rattle.judges.proofs.One.{judged-one}
 use Rattle.offers.specs.Answers.{countsOf, offeredOf}
 use Rattle.offers.specs.declared.HistoryCounts.{HistoryCounts}
 use Rattle.offers.specs.declared.Offered.{Offered}
@@ -17,3 +26,14 @@ offered-one (Legal a) (Legal b) e = let q : countsOf a ≡ countsOf b = cc in ap
 offered-one (Legal a) (Refused s) e = let z : _≡_ {A = ℕ} 0 1 = cc in absurd (omega arith)
 offered-one (Refused r) (Legal b) e = let z : _≡_ {A = ℕ} 0 1 = cc in absurd (omega arith)
 offered-one (Refused r) (Refused s) e = ap Refused (refusal-one r s e)
+
+-- ---- one theorem for each public function
+
+pub judge-rules-one : (w : Pair) (h : History) → Single (λ (r : Judged). judgedOf r ≡ verdict (descentRules w everyNode h))
+judge-rules-one w h = single-view judgedOf judged-one (verdict (descentRules w everyNode h))
+
+pub judge-descent-one : (w : Pair) (h : History) → Single (λ (r : Offered). offeredOf r ≡ ruling (descentRules w everyNode h) (offerCounts w h))
+judge-descent-one w h = single-view offeredOf offered-one (ruling (descentRules w everyNode h) (offerCounts w h))
+
+pub judge-offer-one : (w : Pair) (places labels : List ℕ) → Single (λ (r : Offered). offeredOf r ≡ offerRuling w places labels)
+judge-offer-one w places labels = single-view offeredOf offered-one (offerRuling w places labels)

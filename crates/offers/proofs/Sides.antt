@@ -4,19 +4,19 @@ use native.Mathlib.Omega.{arith}
 use native.Mathlib.Decide.{ℕ-discrete}
 use mathlib.Core.Path.{_≡_, refl, sym, ap, _∙_}
 use mathlib.Core.Logic.{_⊎_, inl, inr, _≢_, _↔_}
-use mathlib.Core.Bool.{Bool, true, false, _||_}
+use mathlib.Core.Bool.{Bool, true, false}
 use mathlib.Core.List.{List, [], _∷_, _++_}
 use lib.ListN.{length, getD, set, replicate, length-set, length-replicate, getD-replicate}
 use lib.Seq.{getD-set-same, getD-set-other}
 use lib.Dec.{T, eqb, eqb→eq, eqb-refl}
 use borrow.Author.Tests.{eq-eqb, ne-eqb}
-use Rattle.trees.specs.Lists.{range, consIf, keepIf, has, first}
+use Rattle.trees.specs.Lists.{range, consIf, keepIf, first}
 use Rattle.trees.specs.Rulings.{pick}
-use Rattle.trees.specs.Trees.{none, up, line, Below, here, step, kid, Leaf, Inner, nodes, kids}
+use Rattle.trees.specs.Trees.{none, up, line, Below, kid, Inner, nodes, kids}
 use Rattle.trees.specs.Sound.{SoundTree}
 use Rattle.trees.proofs.Lists.{first-yes, first-no, first-none, first-has, any-cases, keep-last}
-use Rattle.trees.proofs.Lines.{up-at, line-in, off-line, on-line, top-node, low-node}
-use Rattle.trees.proofs.Kids.{Rooted, via-kid, siblings, kids-two}
+use Rattle.trees.proofs.Lines.{up-at, line-in, off-line, on-line, top-node}
+use Rattle.trees.proofs.Kids.{siblings, kids-two}
 use Rattle.trees.proofs.Meets.{rank-le}
 use Rattle.trees.proofs.Sound.{rooted, rank-is}
 use Rattle.offers.specs.Sides.{sideOf, unseen, merged, sidesFrom, sidesOf, childSide, Sided}

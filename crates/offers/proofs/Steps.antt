@@ -1,22 +1,21 @@
 -- The steps of the searches, each as one law over plain tables. Assumes nothing.
 use Prim.Native.Nat.{ℕ, _+_, _≤_, _<_}
 use native.Mathlib.Omega.{arith}
-use mathlib.Core.Path.{_≡_, refl, sym, ap, _∙_}
-use mathlib.Core.Logic.{_⊎_, inl, inr, _≢_}
-use mathlib.Core.Bool.{Bool, true, false, _&&_, _||_, not}
+use mathlib.Core.Path.{_≡_, sym, ap, _∙_}
+use mathlib.Core.Logic.{inl, inr, _≢_}
+use mathlib.Core.Bool.{Bool, true, false, _||_, not}
 use mathlib.Core.List.{List}
-use lib.ListN.{length, getD, set, replicate}
-use lib.Dec.{T, eqb, ltb}
-use borrow.Author.Tests.{eq-eqb, ne-eqb, lt-ltb, le-ltb, ltb-true, not-true, not-false}
+use lib.ListN.{length, getD, set}
+use lib.Dec.{T, eqb}
+use borrow.Author.Tests.{eq-eqb, ne-eqb, lt-ltb, le-ltb, not-true, not-false}
 use borrow.Author.Count.{below-none, below-more}
-use Rattle.trees.specs.Lists.{lowest}
 use Rattle.trees.specs.Rulings.{pick}
 use Rattle.trees.specs.Trees.{none}
 use Rattle.trees.specs.Tables.{taxon}
-use Rattle.trees.proofs.Bools.{true-T, T-true}
+use Rattle.trees.proofs.Bools.{true-T}
 use Rattle.trees.proofs.Lists.{lowest-is, lowest-none}
-use Rattle.offers.specs.Sides.{sideOf, unseen, merged, Sided, Visiting}
-use Rattle.offers.specs.Tests.{fittingBy, homedBy, nestedBy, partedBy, Placed, Visited, Nesting, Nested}
+use Rattle.offers.specs.Sides.{sideOf, merged, Sided, Visiting}
+use Rattle.offers.specs.Tests.{fittingBy, homedBy, nestedBy, Visited, Nesting, Nested}
 use Rattle.offers.proofs.Sides.{side-cases, sided-start, sided-turn, sided-root}
 
 -- ---- rule 8 at one node

@@ -7,23 +7,23 @@ use mathlib.Core.Logic.{_⊎_, inl, inr, _≢_, _↔_}
 use mathlib.Core.Bool.{Bool, true, false, _&&_, _||_, not}
 use mathlib.Core.List.{List}
 use lib.ListN.{length, getD}
-use lib.Dec.{T, eqb, ltb, eqb→eq, eqb-refl, ltb→lt, lt→ltb, T-not, not-T}
+use lib.Dec.{eqb, ltb, eqb→eq, eqb-refl, T-not, not-T}
 use borrow.Author.Tests.{eq-eqb, ne-eqb, lt-ltb, le-ltb}
 use Rattle.trees.specs.Rulings.{pick}
 use Rattle.trees.specs.Trees.{none, up, Below, here, step, kid, Leaf, Inner, isLeaf}
-use Rattle.trees.specs.Tables.{Pair, taxon, home}
-use Rattle.trees.specs.Sound.{SoundTree, Sound}
-use Rattle.trees.proofs.Bools.{or-left, or-right, or-cases, T-true, true-T, T-same}
-use Rattle.trees.proofs.Lines.{up-at, trans, top-node, low-node}
+use Rattle.trees.specs.Tables.{Pair, taxon}
+use Rattle.trees.specs.Sound.{Sound}
+use Rattle.trees.proofs.Bools.{or-left, or-right, or-cases, T-true, T-same}
+use Rattle.trees.proofs.Lines.{up-at, trans, top-node}
 use Rattle.trees.proofs.Kids.{kids-has, none-has, kid-first, kid-second, kid-order, either-kid, via-kid, no-kid}
-use Rattle.trees.proofs.Sound.{is-leaf, not-leaf, home-is, home-one, trees}
+use Rattle.trees.proofs.Sound.{is-leaf, not-leaf, home-is, home-one}
 use Rattle.judges.proofs.Tests.{tax-leaf}
 use Rattle.histories.specs.Histories.{History, told, everyNode}
 use Rattle.histories.specs.Legal.{Apart}
 use Rattle.histories.specs.Rules.{placed, rightKind, fitting, homed, nested, parted}
 use Rattle.histories.proofs.Judged.{homed-is, nested-is, parted-is}
-use Rattle.offers.specs.Sides.{sideOf, unseen, merged, childSide, Sided}
-use Rattle.offers.specs.Tests.{fittingBy, homedBy, nestedBy, partedBy, Placed}
+use Rattle.offers.specs.Sides.{sideOf, unseen, merged, Sided}
+use Rattle.offers.specs.Tests.{fittingBy, homedBy, nestedBy, partedBy}
 use Rattle.offers.proofs.Sides.{side-is, side-cases, sided-end, merged-two}
 
 and-true : (b : Bool) → (b && true) ≡ b

@@ -1,3 +1,5 @@
 pub mod Sides
 pub mod Tests
+pub mod Runs
+pub mod Codes
 pub mod Answers

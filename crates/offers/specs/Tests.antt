@@ -3,11 +3,14 @@
 --   homedBy st gt pl g      == rule 9, where the species tables are sound and rule 8 holds: only the home carries the leaf's taxon
 --   nestedBy sp gp pl c     == rule 10, by the side on which the child lies
 --   partedBy lb sides g     == rule 11, by what is known of the children's sides
+--   Alike kind tax          <-> a label and a taxon that go together: a leaf's, or an inner node's
+--   Fitting gt pl lb        <-> what the quick test of rule 8 needs
 --   Placed st gt pl         <-> every gene node's place is a species node
 --   Visited; Nesting, Nested <-> what one step and the whole search of rule 10 need and leave
 -- proofs/Tests.antt shows that each is the rule's own test. Assumes nothing.
 use Prim.Native.Nat.{ℕ, _+_, _≤_, _<_}
 use mathlib.Core.Path.{_≡_}
+use mathlib.Core.Logic.{_≢_}
 use mathlib.Core.Bool.{Bool, true, _&&_, _||_, not}
 use mathlib.Core.List.{List}
 use lib.ListN.{length, getD, replicate}
@@ -32,6 +35,16 @@ nestedBy sp gp pl c =
 
 unfoldable pub partedBy : List ℕ → List ℕ → ℕ → Bool
 partedBy lb sides g = not (eqb (getD lb g 0) 1) || not (eqb (getD sides g 0) none)
+
+-- a label 0 with a taxon, or another label with none
+abbrev pub Alike : ℕ → ℕ → Type 0
+Alike kind tax = (kind ≡ 0 → tax ≢ 0) × (kind ≢ 0 → tax ≡ 0)
+
+-- what the quick test of rule 8 needs
+pub record Fitting (gt pl lb : List ℕ) : Type 0 where
+  pub few : length gt ≤ 2047
+  pub places-room : length gt ≤ length pl
+  pub labels-room : length gt ≤ length lb
 
 -- what rules 9 to 11 find once rule 8 has passed: every place is a species node
 pub record Placed (st gt pl : List ℕ) : Type 0 where

@@ -1,79 +1,54 @@
-// The requests over the trees: each reads what its call still needs, makes the call, and prints the answer and the lent tables.
-use crate::input;
-use crate::input::Cursor;
-use crate::input::Item;
-use crate::input::Table;
-use crate::output;
-use judges::Judged;
-use least::Dating;
-use least::DatingAnswer;
-use least::LeastAnswer;
-use offers::Offered;
+// The requests over the trees, 1 to 5: each reads what its call still needs, makes the call, and puts the answer and the lent tables. Of a spoiled talk nothing is put.
+use crate::lines;
+use dialogue::Line;
+use dialogue::Memory;
+use dialogue::Talk;
 use trees::GeneNode;
 
-// Where to go on, and how much the buffer holds.
-pub(crate) enum Step {
-    Next(Cursor, usize),
-    Bad(usize),
-}
-
-fn show_judged(buffer: &mut [u8], used: usize, answer: Judged) -> usize {
-    match answer {
-        Judged::Sound => {
-            let held = output::put_text(buffer, used, b"ok");
-            output::end_line(buffer, held)
-        }
-        Judged::Refused(r) => output::put_refusal(buffer, used, r),
-    }
-}
-
 // Code 1.
-pub(crate) fn species(
-    parents: &[u16],
-    taxa: &[u32],
-    next: Cursor,
-    buffer: &mut [u8],
-    used: usize,
-) -> Step {
+pub(crate) fn species(memory: &mut Memory, talk: Talk, parents: &[u16], taxa: &[u32]) -> Talk {
     let answer = judges::judge_species(parents, taxa);
-    Step::Next(next, show_judged(buffer, used, answer))
+    dialogue::put_line(memory, talk, lines::of_judged(answer))
 }
 
 // Code 2.
 pub(crate) fn genes(
+    memory: &mut Memory,
+    talk: Talk,
     species_parents: &[u16],
     species_taxa: &[u32],
     gene_parents: &[u16],
     gene_taxa: &[u32],
-    next: Cursor,
-    buffer: &mut [u8],
-    used: usize,
-) -> Step {
+) -> Talk {
     let answer = judges::judge_pair(species_parents, species_taxa, gene_parents, gene_taxa);
-    Step::Next(next, show_judged(buffer, used, answer))
+    dialogue::put_line(memory, talk, lines::of_judged(answer))
 }
 
-fn show_least(buffer: &mut [u8], used: usize, answer: LeastAnswer) -> usize {
-    match answer {
-        LeastAnswer::Done(c) => {
-            let duplications = c.duplications as u64;
-            let losses = c.losses as u64;
-            let speciations = c.speciations as u64;
-            let climbs = c.climbs as u64;
-            let cost = c.cost;
-            let a = output::put_text(buffer, used, b"ok");
-            let b = output::put_next(buffer, a, duplications);
-            let d = output::put_next(buffer, b, losses);
-            let e = output::put_next(buffer, d, speciations);
-            let f = output::put_next(buffer, e, climbs);
-            let g = output::put_next(buffer, f, cost);
-            output::end_line(buffer, g)
-        }
-        LeastAnswer::Refused(r) => output::put_refusal(buffer, used, r),
+// A history's two tables.
+pub(crate) fn put_history(memory: &mut Memory, talk: Talk, places: &[u16], labels: &[u16]) -> Talk {
+    let then = dialogue::put_words(memory, talk, places);
+    dialogue::put_words(memory, then, labels)
+}
+
+// The two weights.
+struct TwoWeights {
+    dw: u16,
+    lw: u16,
+    talk: Talk,
+}
+
+fn weights(memory: &mut Memory, talk: Talk) -> TwoWeights {
+    let first = dialogue::small(memory, talk, 65535);
+    let second = dialogue::small(memory, first.talk, 65535);
+    let next = second.talk;
+    TwoWeights {
+        dw: first.value as u16,
+        lw: second.value as u16,
+        talk: next,
     }
 }
 
-fn history_into(
+fn least_line(
     species_parents: &[u16],
     species_taxa: &[u32],
     gene_parents: &[u16],
@@ -82,9 +57,7 @@ fn history_into(
     labels: &mut [u16],
     dw: u16,
     lw: u16,
-    buffer: &mut [u8],
-    used: usize,
-) -> usize {
+) -> Line {
     let answer = least::least_history(
         species_parents,
         species_taxa,
@@ -95,168 +68,77 @@ fn history_into(
         dw,
         lw,
     );
-    let a = show_least(buffer, used, answer);
-    let b = output::put_words(buffer, a, places);
-    output::put_words(buffer, b, labels)
+    lines::of_least(answer)
 }
 
-// The two weights.
-enum TwoWeights {
-    Both(u16, u16, Cursor),
-    Bad,
-}
-
-fn weights(source: &mut [u8], from: Cursor) -> TwoWeights {
-    let Item::Number(dw, then) = input::small(source, from, 65535) else {
-        return TwoWeights::Bad;
-    };
-    let Item::Number(lw, next) = input::small(source, then, 65535) else {
-        return TwoWeights::Bad;
-    };
-    TwoWeights::Both((dw % 65536) as u16, (lw % 65536) as u16, next)
+fn put_least(memory: &mut Memory, talk: Talk, line: Line, places: &[u16], labels: &[u16]) -> Talk {
+    let then = dialogue::put_line(memory, talk, line);
+    put_history(memory, then, places, labels)
 }
 
 // Code 3.
 pub(crate) fn history(
-    source: &mut [u8],
-    from: Cursor,
+    memory: &mut Memory,
+    talk: Talk,
     species_parents: &[u16],
     species_taxa: &[u32],
     gene_parents: &[u16],
     gene_taxa: &[u32],
-    buffer: &mut [u8],
-    used: usize,
-) -> Step {
-    let mut places = [0u16; 2100];
-    let mut labels = [0u16; 2100];
-    let Table::Read(m, then) = input::words(source, from, &mut places) else {
-        return Step::Bad(used);
-    };
-    let Table::Read(n, behind) = input::words(source, then, &mut labels) else {
-        return Step::Bad(used);
-    };
-    let TwoWeights::Both(dw, lw, next) = weights(source, behind) else {
-        return Step::Bad(used);
-    };
-    if 2100 < m {
-        return Step::Bad(used);
-    }
-    if 2100 < n {
-        return Step::Bad(used);
-    }
-    let held = history_into(
+    places: &mut [u16],
+    labels: &mut [u16],
+) -> Talk {
+    let both = weights(memory, talk);
+    let line = least_line(
         species_parents,
         species_taxa,
         gene_parents,
         gene_taxa,
-        &mut places[..m],
-        &mut labels[..n],
-        dw,
-        lw,
-        buffer,
-        used,
+        places,
+        labels,
+        both.dw,
+        both.lw,
     );
-    Step::Next(next, held)
-}
-
-fn show_offered(buffer: &mut [u8], used: usize, answer: Offered) -> usize {
-    match answer {
-        Offered::Legal(c) => {
-            let duplications = c.duplications as u64;
-            let losses = c.losses as u64;
-            let speciations = c.speciations as u64;
-            let a = output::put_text(buffer, used, b"ok");
-            let b = output::put_next(buffer, a, duplications);
-            let d = output::put_next(buffer, b, losses);
-            let e = output::put_next(buffer, d, speciations);
-            output::end_line(buffer, e)
-        }
-        Offered::Refused(r) => output::put_refusal(buffer, used, r),
-    }
+    put_least(memory, both.talk, line, places, labels)
 }
 
 // Code 4.
 pub(crate) fn offer(
-    source: &mut [u8],
-    from: Cursor,
+    memory: &mut Memory,
+    talk: Talk,
     species_parents: &[u16],
     species_taxa: &[u32],
     gene_parents: &[u16],
     gene_taxa: &[u32],
-    buffer: &mut [u8],
-    used: usize,
-) -> Step {
-    let mut places = [0u16; 2100];
-    let mut labels = [0u16; 2100];
-    let Table::Read(m, then) = input::words(source, from, &mut places) else {
-        return Step::Bad(used);
-    };
-    let Table::Read(n, next) = input::words(source, then, &mut labels) else {
-        return Step::Bad(used);
-    };
-    if 2100 < m {
-        return Step::Bad(used);
-    }
-    if 2100 < n {
-        return Step::Bad(used);
-    }
+    places: &[u16],
+    labels: &[u16],
+) -> Talk {
     let answer = offers::judge_offer(
         species_parents,
         species_taxa,
         gene_parents,
         gene_taxa,
-        &places[..m],
-        &labels[..n],
+        places,
+        labels,
     );
-    Step::Next(next, show_offered(buffer, used, answer))
-}
-
-fn show_dating(buffer: &mut [u8], used: usize, dating: Dating) -> usize {
-    match dating {
-        Dating::NotDuplication => {
-            let a = output::put_text(buffer, used, b"ok 0");
-            output::end_line(buffer, a)
-        }
-        Dating::From(s) => {
-            let lower = s.0 as u64;
-            let a = output::put_text(buffer, used, b"ok 1");
-            let b = output::put_next(buffer, a, lower);
-            output::end_line(buffer, b)
-        }
-        Dating::Between(s, t) => {
-            let lower = s.0 as u64;
-            let upper = t.0 as u64;
-            let a = output::put_text(buffer, used, b"ok 2");
-            let b = output::put_next(buffer, a, lower);
-            let c = output::put_next(buffer, b, upper);
-            output::end_line(buffer, c)
-        }
-    }
+    dialogue::put_line(memory, talk, lines::of_offered(answer))
 }
 
 // Code 5.
 pub(crate) fn date(
-    source: &mut [u8],
-    from: Cursor,
+    memory: &mut Memory,
+    talk: Talk,
     species_parents: &[u16],
     species_taxa: &[u32],
     gene_parents: &[u16],
     gene_taxa: &[u32],
-    buffer: &mut [u8],
-    used: usize,
-) -> Step {
-    let Item::Number(v, next) = input::number(source, from) else {
-        return Step::Bad(used);
-    };
+) -> Talk {
+    let found = dialogue::number(memory, talk);
     let answer = least::date(
         species_parents,
         species_taxa,
         gene_parents,
         gene_taxa,
-        GeneNode(v as usize),
+        GeneNode(found.value as usize),
     );
-    match answer {
-        DatingAnswer::Dated(d) => Step::Next(next, show_dating(buffer, used, d)),
-        DatingAnswer::Refused(r) => Step::Next(next, output::put_refusal(buffer, used, r)),
-    }
+    dialogue::put_line(memory, found.talk, lines::of_dating(answer))
 }

@@ -1,210 +1,221 @@
 // Reads requests from standard input, makes the calls, and prints what they answer and leave. docs/REPLAY.md is its manual.
 mod calls;
-mod input;
-mod output;
+mod lines;
 mod stored;
 
-use calls::Step;
-use input::Cursor;
-use input::Item;
-use input::Table;
+use dialogue::Memory;
+use dialogue::Talk;
 
-// The requests whose trees have been read: 2 to 6.
-fn with_trees(
+// The requests whose trees and history have been read: 3, 4 and 6.
+fn with_history(
     code: u64,
-    source: &mut [u8],
-    from: Cursor,
+    memory: &mut Memory,
+    talk: Talk,
     species_parents: &[u16],
     species_taxa: &[u32],
     gene_parents: &[u16],
     gene_taxa: &[u32],
-    buffer: &mut [u8],
-    used: usize,
-) -> Step {
-    match code {
-        2 => calls::genes(
+    places: &mut [u16],
+    labels: &mut [u16],
+) -> Talk {
+    if code == 3 {
+        return calls::history(
+            memory,
+            talk,
             species_parents,
             species_taxa,
             gene_parents,
             gene_taxa,
-            from,
-            buffer,
-            used,
-        ),
-        3 => calls::history(
-            source,
-            from,
-            species_parents,
-            species_taxa,
-            gene_parents,
-            gene_taxa,
-            buffer,
-            used,
-        ),
-        4 => calls::offer(
-            source,
-            from,
-            species_parents,
-            species_taxa,
-            gene_parents,
-            gene_taxa,
-            buffer,
-            used,
-        ),
-        5 => calls::date(
-            source,
-            from,
-            species_parents,
-            species_taxa,
-            gene_parents,
-            gene_taxa,
-            buffer,
-            used,
-        ),
-        6 => stored::written(
-            source,
-            from,
-            species_parents,
-            species_taxa,
-            gene_parents,
-            gene_taxa,
-            buffer,
-            used,
-        ),
-        _ => Step::Bad(used),
+            places,
+            labels,
+        );
     }
+    if code == 4 {
+        return calls::offer(
+            memory,
+            talk,
+            species_parents,
+            species_taxa,
+            gene_parents,
+            gene_taxa,
+            places,
+            labels,
+        );
+    }
+    stored::written(
+        memory,
+        talk,
+        species_parents,
+        species_taxa,
+        gene_parents,
+        gene_taxa,
+        places,
+        labels,
+    )
 }
 
-// A request whose species tables have been read.
-fn with_species(
+// Reads the history tables.
+fn history_tables(
     code: u64,
-    source: &mut [u8],
-    from: Cursor,
+    memory: &mut Memory,
+    talk: Talk,
     species_parents: &[u16],
     species_taxa: &[u32],
-    buffer: &mut [u8],
-    used: usize,
-) -> Step {
-    if code == 1 {
-        return calls::species(species_parents, species_taxa, from, buffer, used);
+    gene_parents: &[u16],
+    gene_taxa: &[u32],
+) -> Talk {
+    let mut places = [0u16; 2100];
+    let mut labels = [0u16; 2100];
+    let first = dialogue::words(memory, talk, &mut places);
+    let second = dialogue::words(memory, first.talk, &mut labels);
+    let m = first.count;
+    let n = second.count;
+    with_history(
+        code,
+        memory,
+        second.talk,
+        species_parents,
+        species_taxa,
+        gene_parents,
+        gene_taxa,
+        &mut places[..m],
+        &mut labels[..n],
+    )
+}
+
+// The requests whose trees have been read: 2 to 6.
+fn with_trees(
+    code: u64,
+    memory: &mut Memory,
+    talk: Talk,
+    species_parents: &[u16],
+    species_taxa: &[u32],
+    gene_parents: &[u16],
+    gene_taxa: &[u32],
+) -> Talk {
+    if code == 2 {
+        return calls::genes(
+            memory,
+            talk,
+            species_parents,
+            species_taxa,
+            gene_parents,
+            gene_taxa,
+        );
     }
-    if code == 7 {
-        return stored::loaded(source, from, species_parents, species_taxa, buffer, used);
+    if code == 5 {
+        return calls::date(
+            memory,
+            talk,
+            species_parents,
+            species_taxa,
+            gene_parents,
+            gene_taxa,
+        );
     }
+    history_tables(
+        code,
+        memory,
+        talk,
+        species_parents,
+        species_taxa,
+        gene_parents,
+        gene_taxa,
+    )
+}
+
+// Reads the gene tables.
+fn gene_tables(
+    code: u64,
+    memory: &mut Memory,
+    talk: Talk,
+    species_parents: &[u16],
+    species_taxa: &[u32],
+) -> Talk {
     let mut parents = [0u16; 2100];
     let mut taxa = [0u32; 2100];
-    let Table::Read(m, then) = input::words(source, from, &mut parents) else {
-        return Step::Bad(used);
-    };
-    let Table::Read(n, next) = input::longs(source, then, &mut taxa) else {
-        return Step::Bad(used);
-    };
-    if 2100 < m {
-        return Step::Bad(used);
-    }
-    if 2100 < n {
-        return Step::Bad(used);
-    }
+    let first = dialogue::words(memory, talk, &mut parents);
+    let second = dialogue::longs(memory, first.talk, &mut taxa);
+    let m = first.count;
+    let n = second.count;
     with_trees(
         code,
-        source,
-        next,
+        memory,
+        second.talk,
         species_parents,
         species_taxa,
         &parents[..m],
         &taxa[..n],
-        buffer,
-        used,
     )
 }
 
-// One request, behind its code.
-fn request(code: u64, source: &mut [u8], from: Cursor, buffer: &mut [u8], used: usize) -> Step {
-    if code == 8 {
-        return stored::host(source, from, buffer, used);
+// The requests whose species tables have been read: 1 to 7.
+fn with_species(
+    code: u64,
+    memory: &mut Memory,
+    talk: Talk,
+    species_parents: &[u16],
+    species_taxa: &[u32],
+) -> Talk {
+    if code == 1 {
+        return calls::species(memory, talk, species_parents, species_taxa);
     }
-    if code == 0 {
-        return Step::Bad(used);
+    if code == 7 {
+        return stored::loaded(memory, talk, species_parents, species_taxa);
     }
-    if 8 < code {
-        return Step::Bad(used);
-    }
+    gene_tables(code, memory, talk, species_parents, species_taxa)
+}
+
+// Reads the species tables.
+fn species_tables(code: u64, memory: &mut Memory, talk: Talk) -> Talk {
     let mut parents = [0u16; 2100];
     let mut taxa = [0u32; 2100];
-    let Table::Read(m, then) = input::words(source, from, &mut parents) else {
-        return Step::Bad(used);
-    };
-    let Table::Read(n, next) = input::longs(source, then, &mut taxa) else {
-        return Step::Bad(used);
-    };
-    if 2100 < m {
-        return Step::Bad(used);
-    }
-    if 2100 < n {
-        return Step::Bad(used);
-    }
-    with_species(code, source, next, &parents[..m], &taxa[..n], buffer, used)
+    let first = dialogue::words(memory, talk, &mut parents);
+    let second = dialogue::longs(memory, first.talk, &mut taxa);
+    let m = first.count;
+    let n = second.count;
+    with_species(code, memory, second.talk, &parents[..m], &taxa[..n])
 }
 
-// Where to go on behind a request, how much the buffer holds, and whether there is more to do.
-struct Went {
-    next: Cursor,
-    used: usize,
-    more: bool,
-}
-
-fn stop(used: usize) -> Went {
-    Went {
-        next: Cursor { at: 0, end: 0 },
-        used,
-        more: false,
+// One request, behind its code.
+fn request(code: u64, memory: &mut Memory, talk: Talk) -> Talk {
+    if code == 8 {
+        return stored::host(memory, talk);
     }
-}
-
-// What a request has led to.
-fn finish(buffer: &mut [u8], step: Step) -> Went {
-    match step {
-        Step::Next(next, held) => Went {
-            next,
-            used: held,
-            more: true,
-        },
-        Step::Bad(held) => stop(output::put_text(buffer, held, b"bad request\n")),
+    if code == 0 || 8 < code {
+        return dialogue::spoil(talk);
     }
+    species_tables(code, memory, talk)
 }
 
 // The next request, if there is one.
-fn turn(source: &mut [u8], from: Cursor, buffer: &mut [u8], used: usize) -> Went {
-    let item = input::number(source, from);
-    match item {
-        Item::Number(code, next) => {
-            let step = request(code, source, next, buffer, used);
-            finish(buffer, step)
-        }
-        Item::Bad => finish(buffer, Step::Bad(used)),
-        Item::End => stop(used),
+fn turn(memory: &mut Memory, talk: Talk) -> Talk {
+    let first = dialogue::number(memory, talk);
+    if first.over {
+        return first.talk;
     }
+    let after = request(first.value, memory, first.talk);
+    if after.more {
+        return after;
+    }
+    dialogue::put_text(memory, after, b"bad request\n")
 }
 
-// All requests, through the two buffers. There are fewer than the loop has turns.
-fn run(source: &mut [u8], buffer: &mut [u8]) {
-    let mut used: usize = 0;
-    let mut next = Cursor { at: 0, end: 0 };
+// All requests. There are fewer than the loop has turns.
+fn run(memory: &mut Memory) {
+    let mut talk = dialogue::begin();
     let mut left: usize = 1099511627776;
     while 0 < left {
-        let went = turn(source, next, buffer, used);
-        next = went.next;
-        used = went.used;
-        if !went.more {
-            output::flush(buffer, used);
-            return;
+        talk = turn(memory, talk);
+        if !talk.more {
+            break;
         }
         left -= 1;
     }
+    dialogue::flush(memory, talk);
 }
 
 fn main() {
-    let mut source = io::large_buffer();
-    let mut buffer = io::buffer();
-    run(&mut source, &mut buffer);
+    let mut memory = [0u8; 69632];
+    run(&mut memory);
 }

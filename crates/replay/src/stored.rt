@@ -1,26 +1,15 @@
-// The requests about images: writing, loading, and what the C collector asks.
-use crate::calls::Step;
-use crate::input;
-use crate::input::Cursor;
-use crate::input::Table;
-use crate::output;
+// The requests about images, 6 to 8: writing, loading, and what the C collector asks. Of a spoiled talk nothing is put.
+use crate::calls;
+use crate::lines;
+use dialogue::Line;
+use dialogue::Memory;
+use dialogue::Talk;
 use images::load;
-use images::load::Loaded;
 use images::write;
-use images::write::Written;
-
-fn show_written(buffer: &mut [u8], used: usize, answer: Written) -> usize {
-    match answer {
-        Written::Bytes(n) => {
-            let a = output::put_text(buffer, used, b"ok");
-            let b = output::put_next(buffer, a, n as u64);
-            output::end_line(buffer, b)
-        }
-        Written::Refused(r) => output::put_refusal(buffer, used, r),
-    }
-}
 
 fn write_into(
+    memory: &mut Memory,
+    talk: Talk,
     species_parents: &[u16],
     species_taxa: &[u32],
     gene_parents: &[u16],
@@ -28,9 +17,7 @@ fn write_into(
     places: &[u16],
     labels: &[u16],
     image: &mut [u8],
-    buffer: &mut [u8],
-    used: usize,
-) -> usize {
+) -> Talk {
     let answer = write::write_image(
         species_parents,
         species_taxa,
@@ -40,31 +27,27 @@ fn write_into(
         labels,
         image,
     );
-    let held = show_written(buffer, used, answer);
-    output::put_bytes(buffer, held, image)
+    let then = dialogue::put_line(memory, talk, lines::of_written(answer));
+    dialogue::put_bytes(memory, then, image)
 }
 
-// The image buffer of code 6, once the history has been read.
-fn write_to(
-    source: &mut [u8],
-    from: Cursor,
+// Code 6.
+pub(crate) fn written(
+    memory: &mut Memory,
+    talk: Talk,
     species_parents: &[u16],
     species_taxa: &[u32],
     gene_parents: &[u16],
     gene_taxa: &[u32],
     places: &[u16],
     labels: &[u16],
-    buffer: &mut [u8],
-    used: usize,
-) -> Step {
+) -> Talk {
     let mut image = [0u8; 37888];
-    let Table::Read(n, next) = input::bytes(source, from, &mut image) else {
-        return Step::Bad(used);
-    };
-    if 37888 < n {
-        return Step::Bad(used);
-    }
-    let held = write_into(
+    let table = dialogue::bytes(memory, talk, &mut image);
+    let n = table.count;
+    write_into(
+        memory,
+        table.talk,
         species_parents,
         species_taxa,
         gene_parents,
@@ -72,70 +55,10 @@ fn write_to(
         places,
         labels,
         &mut image[..n],
-        buffer,
-        used,
-    );
-    Step::Next(next, held)
-}
-
-// Code 6.
-pub(crate) fn written(
-    source: &mut [u8],
-    from: Cursor,
-    species_parents: &[u16],
-    species_taxa: &[u32],
-    gene_parents: &[u16],
-    gene_taxa: &[u32],
-    buffer: &mut [u8],
-    used: usize,
-) -> Step {
-    let mut places = [0u16; 2100];
-    let mut labels = [0u16; 2100];
-    let Table::Read(m, then) = input::words(source, from, &mut places) else {
-        return Step::Bad(used);
-    };
-    let Table::Read(n, behind) = input::words(source, then, &mut labels) else {
-        return Step::Bad(used);
-    };
-    if 2100 < m {
-        return Step::Bad(used);
-    }
-    if 2100 < n {
-        return Step::Bad(used);
-    }
-    write_to(
-        source,
-        behind,
-        species_parents,
-        species_taxa,
-        gene_parents,
-        gene_taxa,
-        &places[..m],
-        &labels[..n],
-        buffer,
-        used,
     )
 }
 
-fn show_loaded(buffer: &mut [u8], used: usize, answer: Loaded) -> usize {
-    match answer {
-        Loaded::Family(c) => {
-            let species = c.species as u64;
-            let genes = c.genes as u64;
-            let duplications = c.duplications as u64;
-            let losses = c.losses as u64;
-            let a = output::put_text(buffer, used, b"ok");
-            let b = output::put_next(buffer, a, species);
-            let d = output::put_next(buffer, b, genes);
-            let e = output::put_next(buffer, d, duplications);
-            let f = output::put_next(buffer, e, losses);
-            output::end_line(buffer, f)
-        }
-        Loaded::Refused(r) => output::put_refusal(buffer, used, r),
-    }
-}
-
-fn load_into(
+fn load_line(
     species_parents: &[u16],
     species_taxa: &[u32],
     image: &[u8],
@@ -143,9 +66,7 @@ fn load_into(
     gene_taxa: &mut [u32],
     places: &mut [u16],
     labels: &mut [u16],
-    buffer: &mut [u8],
-    used: usize,
-) -> usize {
+) -> Line {
     let answer = load::load_image(
         species_parents,
         species_taxa,
@@ -155,40 +76,66 @@ fn load_into(
         places,
         labels,
     );
-    let a = show_loaded(buffer, used, answer);
-    let b = output::put_words(buffer, a, gene_parents);
-    let c = output::put_longs(buffer, b, gene_taxa);
-    let d = output::put_words(buffer, c, places);
-    output::put_words(buffer, d, labels)
+    lines::of_loaded(answer)
 }
 
-// The history tables of code 7, once the gene tables have been read.
-fn load_history(
-    source: &mut [u8],
-    from: Cursor,
+fn put_loaded(
+    memory: &mut Memory,
+    talk: Talk,
+    line: Line,
+    gene_parents: &[u16],
+    gene_taxa: &[u32],
+    places: &[u16],
+    labels: &[u16],
+) -> Talk {
+    let a = dialogue::put_line(memory, talk, line);
+    let b = dialogue::put_words(memory, a, gene_parents);
+    let c = dialogue::put_longs(memory, b, gene_taxa);
+    calls::put_history(memory, c, places, labels)
+}
+
+fn load_into(
+    memory: &mut Memory,
+    talk: Talk,
     species_parents: &[u16],
     species_taxa: &[u32],
     image: &[u8],
     gene_parents: &mut [u16],
     gene_taxa: &mut [u32],
-    buffer: &mut [u8],
-    used: usize,
-) -> Step {
+    places: &mut [u16],
+    labels: &mut [u16],
+) -> Talk {
+    let line = load_line(
+        species_parents,
+        species_taxa,
+        image,
+        gene_parents,
+        gene_taxa,
+        places,
+        labels,
+    );
+    put_loaded(memory, talk, line, gene_parents, gene_taxa, places, labels)
+}
+
+// The history tables of code 7, once the gene tables have been read.
+fn load_history(
+    memory: &mut Memory,
+    talk: Talk,
+    species_parents: &[u16],
+    species_taxa: &[u32],
+    image: &[u8],
+    gene_parents: &mut [u16],
+    gene_taxa: &mut [u32],
+) -> Talk {
     let mut places = [0u16; 2100];
     let mut labels = [0u16; 2100];
-    let Table::Read(m, then) = input::words(source, from, &mut places) else {
-        return Step::Bad(used);
-    };
-    let Table::Read(n, next) = input::words(source, then, &mut labels) else {
-        return Step::Bad(used);
-    };
-    if 2100 < m {
-        return Step::Bad(used);
-    }
-    if 2100 < n {
-        return Step::Bad(used);
-    }
-    let held = load_into(
+    let first = dialogue::words(memory, talk, &mut places);
+    let second = dialogue::words(memory, first.talk, &mut labels);
+    let m = first.count;
+    let n = second.count;
+    load_into(
+        memory,
+        second.talk,
         species_parents,
         species_taxa,
         image,
@@ -196,121 +143,76 @@ fn load_history(
         gene_taxa,
         &mut places[..m],
         &mut labels[..n],
-        buffer,
-        used,
-    );
-    Step::Next(next, held)
+    )
 }
 
 // The gene tables of code 7, once the image has been read.
 fn load_genes(
-    source: &mut [u8],
-    from: Cursor,
+    memory: &mut Memory,
+    talk: Talk,
     species_parents: &[u16],
     species_taxa: &[u32],
     image: &[u8],
-    buffer: &mut [u8],
-    used: usize,
-) -> Step {
+) -> Talk {
     let mut parents = [0u16; 2100];
     let mut taxa = [0u32; 2100];
-    let Table::Read(m, then) = input::words(source, from, &mut parents) else {
-        return Step::Bad(used);
-    };
-    let Table::Read(n, behind) = input::longs(source, then, &mut taxa) else {
-        return Step::Bad(used);
-    };
-    if 2100 < m {
-        return Step::Bad(used);
-    }
-    if 2100 < n {
-        return Step::Bad(used);
-    }
+    let first = dialogue::words(memory, talk, &mut parents);
+    let second = dialogue::longs(memory, first.talk, &mut taxa);
+    let m = first.count;
+    let n = second.count;
     load_history(
-        source,
-        behind,
+        memory,
+        second.talk,
         species_parents,
         species_taxa,
         image,
         &mut parents[..m],
         &mut taxa[..n],
-        buffer,
-        used,
     )
 }
 
 // Code 7.
 pub(crate) fn loaded(
-    source: &mut [u8],
-    from: Cursor,
+    memory: &mut Memory,
+    talk: Talk,
     species_parents: &[u16],
     species_taxa: &[u32],
-    buffer: &mut [u8],
-    used: usize,
-) -> Step {
+) -> Talk {
     let mut image = [0u8; 37888];
-    let Table::Read(n, behind) = input::bytes(source, from, &mut image) else {
-        return Step::Bad(used);
-    };
-    if 37888 < n {
-        return Step::Bad(used);
-    }
+    let table = dialogue::bytes(memory, talk, &mut image);
+    let n = table.count;
     load_genes(
-        source,
-        behind,
+        memory,
+        table.talk,
         species_parents,
         species_taxa,
         &image[..n],
-        buffer,
-        used,
     )
 }
 
-fn show_host(image: &[u8], parents: &[u8], taxa: &[u8], buffer: &mut [u8], used: usize) -> usize {
+fn host_line(image: &[u8], parents: &[u8], taxa: &[u8]) -> Line {
     let refusal = collector::panheron_refusal(image, parents, taxa) as u64;
     let duplications = collector::panheron_duplications(image, parents, taxa) as u64;
     let losses = collector::panheron_losses(image, parents, taxa) as u64;
-    let a = output::put_text(buffer, used, b"ok");
-    let b = output::put_next(buffer, a, refusal);
-    let c = output::put_next(buffer, b, duplications);
-    let d = output::put_next(buffer, c, losses);
-    output::end_line(buffer, d)
+    lines::fine(3, [refusal, duplications, losses, 0, 0])
 }
 
 // The two tables of code 8, once the image has been read.
-fn host_tables(
-    source: &mut [u8],
-    from: Cursor,
-    image: &[u8],
-    buffer: &mut [u8],
-    used: usize,
-) -> Step {
+fn host_tables(memory: &mut Memory, talk: Talk, image: &[u8]) -> Talk {
     let mut parents = [0u8; 8400];
     let mut taxa = [0u8; 8400];
-    let Table::Read(m, then) = input::bytes(source, from, &mut parents) else {
-        return Step::Bad(used);
-    };
-    let Table::Read(n, next) = input::bytes(source, then, &mut taxa) else {
-        return Step::Bad(used);
-    };
-    if 8400 < m {
-        return Step::Bad(used);
-    }
-    if 8400 < n {
-        return Step::Bad(used);
-    }
-    let held = show_host(image, &parents[..m], &taxa[..n], buffer, used);
-    Step::Next(next, held)
+    let first = dialogue::bytes(memory, talk, &mut parents);
+    let second = dialogue::bytes(memory, first.talk, &mut taxa);
+    let m = first.count;
+    let n = second.count;
+    let line = host_line(image, &parents[..m], &taxa[..n]);
+    dialogue::put_line(memory, second.talk, line)
 }
 
 // Code 8.
-pub(crate) fn host(source: &mut [u8], from: Cursor, buffer: &mut [u8], used: usize) -> Step {
+pub(crate) fn host(memory: &mut Memory, talk: Talk) -> Talk {
     let mut image = [0u8; 37888];
-    let Table::Read(n, behind) = input::bytes(source, from, &mut image) else {
-        return Step::Bad(used);
-    };
-    if 37888 < n {
-        return Step::Bad(used);
-    }
-    host_tables(source, behind, &image[..n], buffer, used)
+    let table = dialogue::bytes(memory, talk, &mut image);
+    let n = table.count;
+    host_tables(memory, table.talk, &image[..n])
 }

@@ -8,16 +8,17 @@ use mathlib.Core.List.{List, [], _∷_, _++_}
 use lib.ListN.{length, take, drop, replicate, length-replicate}
 use lib.Seq.{length-take-le}
 use lib.Dec.{T, leb, le→leb}
+use borrow.Author.Tests.{leb-true}
 use Rattle.trees.specs.Lists.{range, has}
-use Rattle.trees.specs.Rulings.{accepted, Rule, whole, ruling, fine, numberOf, treeOf, Passes}
+use Rattle.trees.specs.Rulings.{accepted, Rule, whole, ruling, fine, numberOf, treeOf, Passes, pick}
 use Rattle.trees.specs.Trees.{nodes}
 use Rattle.trees.specs.Tables.{Pair, pair}
 use Rattle.trees.specs.Lent.{replaced}
 use Rattle.trees.specs.Rules.{pairRules}
 use Rattle.trees.specs.declared.Refusal.{Refusal}
-use Rattle.trees.proofs.Bools.{and-both, true-T}
+use Rattle.trees.proofs.Bools.{and-both, test, true-T}
 use Rattle.trees.proofs.Lists.{has-head, has-tail, range-has}
-use Rattle.trees.proofs.Lent.{take-replaced}
+use Rattle.trees.proofs.Lent.{take-replaced, length-replaced}
 use Rattle.trees.proofs.Rulings.{rule-cases, ruling-pass, ruling-fail, ruling-all, ruling-stays}
 use Rattle.histories.specs.Histories.{History, told, least, leastPlaces, leastLabels}
 use Rattle.histories.specs.Rules.{roomy, leastRules, leastCounts, leastRuling}
@@ -27,14 +28,15 @@ use Rattle.least.specs.Answers as least-answers
 use Rattle.least.specs.declared.LeastCounts.{LeastCounts}
 use Rattle.least.specs.declared.LeastAnswer.{LeastAnswer}
 use Rattle.least.specs.declared.LeastAnswer.the-variants.{Done, Refused}
-use Rattle.text.specs.Words.{words}
-use Rattle.text.specs.Reading.{speciesCount, geneCount, widths, fits, tables, countRules, textRules, textRuling}
-use Rattle.text.specs.Printing.{historyLines, countsLine, refusedLine, report, answered, printed}
-use Rattle.text.specs.Putting.{toldLines}
-use Rattle.text.specs.Readers.{SizesRead, SizesBy, TablesRead, Ready}
-use Rattle.text.specs.declared.read.Sizes.{Sizes}
-use Rattle.text.specs.declared.read.Sizes.the-variants.{Refused as Sizes·Refused}
-use Rattle.text.proofs.Counted.{sizes-refusal}
+use Rattle.io.specs.Counts.{Counts}
+use Rattle.reading.specs.Words.{words}
+use Rattle.reading.specs.Reading.{speciesCount, geneCount, widths, fits, tables, countRules, textRules, textRuling}
+use Rattle.reading.specs.Readers.{SizesRead, SizesBy, TablesRead, Ready}
+use Rattle.reading.specs.declared.Sizes.{Sizes}
+use Rattle.reading.specs.declared.Sizes.the-variants.{Refused as Sizes·Refused}
+use Rattle.reading.proofs.Counted.{sizes-refusal}
+use Rattle.printing.specs.Printing.{historyLines, countsLine, refusedLine, report, answered, printed}
+use Rattle.printing.specs.Putting.{toldLines, Outcome, outcome}
 
 -- ---- the least history's answer
 
@@ -141,3 +143,23 @@ sized-ready text p q next R =
     let P : length (take p zeros) ≡ p = sym (zeros-length p (R .p-few)) in
     let Q : length (take q zeros) ≡ q = sym (zeros-length q (R .q-few)) in
     record { read = rw (P, Q) R; st-even = refl; gt-even = refl }
+
+-- ---- what is left in the buffer
+
+-- as many bytes as the buffer has, at most
+pub outcome-counts : (new old out : List ℕ) (r : ℕ) → _≡_ {A = Outcome} (record { written = r; out = out }) (outcome new old) → Counts r out
+unfolding outcome pick
+outcome-counts new old out r e =
+    elim (test (leb (length new) (length old))) [
+      | inl t ↦
+          let q : _≡_ {A = Outcome} (record { written = r; out = out }) (record { written = length new; out = replaced new old }) = e ∙ rw t in
+          let w : r ≡ length new = ap (λ o. o .written) q in
+          let b : out ≡ replaced new old = ap (λ o. o .out) q in
+          let s : length (take (length new) (replaced new old)) ≡ length new = ap length (take-replaced new old) in
+          let l : length (replaced new old) ≡ length old = length-replaced new old (leb-true (length new) (length old) t) in
+          rw (w, b) (omega (arith, l, leb-true (length new) (length old) t), sym s)
+      | inr t ↦
+          let q : _≡_ {A = Outcome} (record { written = r; out = out }) (record { written = 0; out = old }) = e ∙ rw t in
+          let w : r ≡ 0 = ap (λ o. o .written) q in
+          rw w (omega arith, refl)
+    ]

@@ -1,16 +1,3 @@
-pub mod Digits
-pub mod Words
-pub mod Cursor
-pub mod Spelling
-pub mod Fits
-pub mod Filling
-pub mod Rest
-pub mod Counted
-pub mod Decimal
-pub mod Putting
-pub mod Lines
-pub mod Written
-pub mod Lengths
 pub mod RoundTrip
 pub mod Printed
 pub mod Answered

@@ -1,7 +1,7 @@
 -- One answer only: what `history_text` answers and leaves is fixed by its contract.
---   history-one   : any two results that meet it coincide
---   history-zero  : the answer is 0 exactly if the buffer is too short
---   history-whole : 24,598 bytes are always enough
+--   history-text-one : any two results that meet it are equal
+--   history-zero     : the answer is 0 exactly if the buffer is too short
+--   history-whole    : 24,598 bytes are always enough
 -- Assumes nothing.
 use Prim.Native.Nat.{ℕ, _≤_, _<_}
 use native.Mathlib.Omega.{arith}
@@ -11,17 +11,20 @@ use mathlib.Core.Logic.{_↔_}
 use mathlib.Core.List.{List}
 use lib.ListN.{length}
 use borrow.Author.Tests.{le-leb}
+use Rattle.trees.specs.One.{Single}
 use Rattle.trees.specs.Rulings.{pick}
 use Rattle.trees.specs.Lent.{replaced}
-use Rattle.text.specs.Printing.{printed}
-use Rattle.text.specs.Putting.{Outcome, outcome}
-use Rattle.text.proofs.Putting.{outcome-short}
+use Rattle.trees.proofs.One.{both}
+use Rattle.printing.specs.Printing.{printed}
+use Rattle.printing.specs.Putting.{Outcome, outcome}
+use Rattle.printing.proofs.Putting.{outcome-short}
 use Rattle.text.proofs.Printed.{printed-some, printed-fits}
 
 module _ (text old : List ℕ) where
-  pub history-one : (r s : ℕ) (a b : List ℕ) → _≡_ {A = Outcome} (record { written = r; out = a }) (outcome (printed text) old)
-      → _≡_ {A = Outcome} (record { written = s; out = b }) (outcome (printed text) old) → (r ≡ s) × (a ≡ b)
-  history-one r s a b e f = (ap (λ o. o .written) (e ∙ sym f), ap (λ o. o .out) (e ∙ sym f))
+  pub history-text-one : Single (λ (r : ℕ × List ℕ). _≡_ {A = Outcome} (record { written = r .0; out = r .1 }) (outcome (printed text) old))
+  history-text-one a b p q =
+      let e = p ∙ sym q in
+      both a b (ap (λ (o : Outcome). o .written) e) (ap (λ (o : Outcome). o .out) e)
 
   -- there is room for everything
   whole : length (printed text) ≤ length old → outcome (printed text) old ≡ record { written = length (printed text); out = replaced (printed text) old }

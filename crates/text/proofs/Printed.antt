@@ -21,13 +21,13 @@ use Rattle.histories.specs.Histories.{History, least, cost}
 use Rattle.histories.specs.Rules.{leastCounts}
 use Rattle.histories.proofs.Places.{place-node}
 use Rattle.histories.proofs.Bounds.{duplications-few, speciations-few, least-losses-few, least-climbs-few}
-use Rattle.text.specs.Numbers.{value}
-use Rattle.text.specs.Words.{words}
-use Rattle.text.specs.Reading.{speciesCount, geneCount, widths, fits, tablesOf, tables, countRules, textRules, textRuling}
-use Rattle.text.specs.Printing.{nodeLine, historyLines, countsLine, refusedLine, report, printed}
-use Rattle.text.proofs.Counted.{counted-few}
-use Rattle.text.proofs.Decimal.{decimal-few}
-use Rattle.text.proofs.Lines.{node-length, counts-length, refused-length, linesTo, lines-none, lines-more}
+use Rattle.reading.specs.Numbers.{value}
+use Rattle.reading.specs.Words.{words}
+use Rattle.reading.specs.Reading.{speciesCount, geneCount, widths, fits, tablesOf, tables, countRules, textRules, textRuling}
+use Rattle.reading.proofs.Counted.{counted-few}
+use Rattle.printing.specs.Printing.{nodeLine, historyLines, countsLine, refusedLine, report, printed}
+use Rattle.printing.proofs.Decimal.{decimal-few}
+use Rattle.printing.proofs.Lines.{node-length, counts-length, refused-length, linesTo, lines-none, lines-more}
 
 -- ---- refusals
 

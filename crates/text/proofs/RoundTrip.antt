@@ -21,17 +21,17 @@ use Rattle.trees.proofs.Rulings.{ruling-all, ruling-pass, ruling-passes}
 use Rattle.trees.proofs.Judged.{pair-sound}
 use Rattle.histories.specs.Histories.{least}
 use Rattle.histories.specs.Rules.{leastCounts, leastRuling}
-use Rattle.text.specs.Numbers.{isNumber, decimal}
-use Rattle.text.specs.Words.{words}
-use Rattle.text.specs.Reading.{word, speciesCount, geneCount, counted, treeWidths, widths, fits, tables, countRules, textRules, textRuling}
-use Rattle.text.specs.Printing.{historyLines, countsLine, report, printed}
-use Rattle.text.specs.Written.{Written, numbersOf, Writable, canonical}
-use Rattle.text.proofs.Decimal.{decimal-value}
-use Rattle.text.proofs.Fits.{fits-split}
-use Rattle.text.proofs.Rest.{tables-four}
-use Rattle.text.proofs.Written.{written-words, written-length, spaced-written, decimal-number, decimal-fits, decimal-values}
+use Rattle.reading.specs.Numbers.{isNumber, decimal}
+use Rattle.reading.specs.Words.{words}
+use Rattle.reading.specs.Reading.{word, speciesCount, geneCount, counted, treeWidths, widths, fits, tables, countRules, textRules, textRuling}
+use Rattle.reading.proofs.Fits.{fits-split}
+use Rattle.reading.proofs.Rest.{tables-four}
+use Rattle.printing.specs.Printing.{historyLines, countsLine, report, printed}
+use Rattle.printing.specs.Written.{Written, numbersOf, Writable, canonical}
+use Rattle.printing.proofs.Decimal.{decimal-value}
+use Rattle.printing.proofs.Written.{written-words, written-length, spaced-written, decimal-number, decimal-fits, decimal-values}
+use Rattle.printing.proofs.Lengths.{gene-taxa-small, numbers-length}
 use Rattle.text.proofs.Answered.{roomy-ruling}
-use Rattle.text.proofs.Lengths.{gene-taxa-small, numbers-length}
 
 fits-join : (bs cs : List ℕ) (us vs : List (List ℕ)) → T (fits bs us) → T (fits cs vs) → T (fits (bs ++ cs) (us ++ vs))
 fits-join bs cs us vs s t = rw (fits-split bs cs us vs s) t

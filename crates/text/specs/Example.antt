@@ -14,10 +14,10 @@ use Rattle.trees.specs.Rules.{sized, ordered, paired, marked, fresh, known, sha
 use Rattle.histories.specs.Places.{below, leaves, holds, place}
 use Rattle.histories.specs.Histories.{label, edge, lossesAt, losses, climbsAt, climbs, duplications, speciations, cost}
 use Rattle.histories.specs.Rules.{leastCounts}
-use Rattle.text.specs.Numbers.{digit, spelled, isNumber, digitsOf, decimal}
-use Rattle.text.specs.Words.{blank, opens, grown, words}
-use Rattle.text.specs.Reading.{word, speciesCount, geneCount, counted, treeWidths, widths, fits, tablesOf, tables, countRules, textRules, textRuling}
-use Rattle.text.specs.Printing.{ended, letter, nodeLine, historyLines, countsLine, refusedWord, refusedLine, report, printed}
+use Rattle.reading.specs.Numbers.{digit, spelled, isNumber, digitsOf, decimal}
+use Rattle.reading.specs.Words.{blank, opens, grown, words}
+use Rattle.reading.specs.Reading.{word, speciesCount, geneCount, counted, treeWidths, widths, fits, tablesOf, tables, countRules, textRules, textRuling}
+use Rattle.printing.specs.Printing.{ended, letter, nodeLine, historyLines, countsLine, refusedWord, refusedLine, report, printed}
 
 unfoldable pub example : List ℕ
 example =

@@ -1,9 +1,1 @@
-pub mod Numbers
-pub mod Words
-pub mod Reading
-pub mod Printing
 pub mod Example
-pub mod Cursor
-pub mod Readers
-pub mod Putting
-pub mod Written

@@ -1,24 +1,21 @@
 // The text of the program `history`: the bytes that it reads, and the bytes that it prints.
 //
 // `history_text` is the whole program on slices. Nothing is asked of its caller, and its contract fixes its answer and the lent
-// buffer for every text and every buffer.
-mod print;
-mod read;
-
+// buffer for every text and every buffer. The crate `reading` has what it reads with, `printing` what it prints with.
 ghost use mathlib.Core.Path.{_≡_};
 ghost use Prim.Native.Nat.{_≤_};
 ghost use lib.ListN.{length};
 ghost use Rattle.io.specs.Counts.{Counts};
 ghost use Rattle.trees.specs.Tables.{pair};
-ghost use Rattle.text.specs.Printing.{answered, printed};
-ghost use Rattle.text.specs.Readers.{SizesRead, Ready};
-ghost use Rattle.text.specs.Putting.{Outcome, outcome};
+ghost use Rattle.reading.specs.Readers.{SizesRead, Ready};
+ghost use Rattle.printing.specs.Printing.{answered, printed};
+ghost use Rattle.printing.specs.Putting.{Outcome, outcome};
 use least::LeastAnswer;
-use print::write_history;
-use print::write_refusal;
-use read::Sizes;
-use read::read_counts;
-use read::read_tables;
+use printing::write_history;
+use printing::write_refusal;
+use reading::Sizes;
+use reading::read_counts;
+use reading::read_tables;
 use trees::Refusal;
 
 // The least history of four tables, printed. Its places and labels stand on the stack, 8,188 bytes, since a program has no

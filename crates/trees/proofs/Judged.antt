@@ -1,19 +1,19 @@
 -- The rules 1 to 6 all pass exactly if the tables are sound. Assumes nothing.
-use Prim.Native.Nat.{ℕ, zero, suc, _+_, _≤_, _<_}
+use Prim.Native.Nat.{ℕ, _≤_, _<_}
 use native.Mathlib.Omega.{arith}
 use native.Mathlib.Decide.{ℕ-discrete, decLt}
-use mathlib.Core.Path.{_≡_, refl, sym, ap, _∙_}
+use mathlib.Core.Path.{_≡_, sym}
 use mathlib.Core.Logic.{_⊎_, inl, inr, _≢_, _↔_}
-use mathlib.Core.Bool.{Bool, true, false, _&&_, _||_, not}
-use mathlib.Core.List.{List, [], _∷_, _++_}
+use mathlib.Core.Bool.{Bool, _&&_, not}
+use mathlib.Core.List.{List, [], _∷_}
 use lib.ListN.{length}
 use lib.Dec.{T, eqb, ltb, leb, eqb→eq, eqb-refl, ltb→lt, lt→ltb, leb→le, le→leb, T-not, not-T}
-use borrow.Author.Tests.{eq-eqb, ne-eqb}
+use borrow.Author.Tests.{ne-eqb}
 use Rattle.trees.specs.Lists.{range, any}
 use Rattle.trees.specs.Trees.{none, up, nodes, kids, Leaf, Inner, isLeaf}
 use Rattle.trees.specs.Tables.{taxon, Pair}
 use Rattle.trees.specs.Sound.{SoundTree, Distinct, Known, SoundSpecies, Sound}
-use Rattle.trees.specs.Rulings.{Ruling, accepted, refused, Rule, whole, each, pick, ruling, verdict, fine, Passes, Every, done, and}
+use Rattle.trees.specs.Rulings.{accepted, each, pick, verdict, fine, Passes, Every, done, and}
 use Rattle.trees.specs.Rules.{sized, ordered, paired, marked, fresh, known, shapeRules, speciesRules, familyRules, geneRules, pairRules}
 use Rattle.trees.proofs.Bools.{or-left, or-right, or-cases, and-both, and-left, and-right, test, T-true, true-T}
 use Rattle.trees.proofs.Lists.{any-has, has-any, has-range, range-has}

@@ -1,18 +1,17 @@
 -- Children of a node, and sums over them. Assumes nothing.
-use Prim.Native.Nat.{ℕ, zero, suc, _+_, _≤_, _<_}
+use Prim.Native.Nat.{ℕ, _+_, _≤_, _<_}
 use native.Mathlib.Omega.{arith}
-use native.Mathlib.Nat.{zero-add}
-use native.Mathlib.Decide.{decLt, ℕ-discrete}
-use mathlib.Core.Path.{_≡_, refl, sym, ap, ap₂, _∙_, subst}
+use native.Mathlib.Decide.{ℕ-discrete}
+use mathlib.Core.Path.{_≡_, refl, sym, ap₂, _∙_}
 use mathlib.Core.Logic.{_⊎_, inl, inr, _≢_}
-use mathlib.Core.Bool.{Bool, true, false, _||_}
+use mathlib.Core.Bool.{true}
 use mathlib.Core.List.{List, [], _∷_}
 use lib.ListN.{length, getD, List·getD-eq-default}
-use lib.Dec.{T, eqb, ltb, eqb→eq, eqb-refl}
-use borrow.Author.Tests.{lt-ltb, le-ltb, eq-eqb, ne-eqb, ltb-true, ltb-false}
-use Rattle.trees.specs.Lists.{range, keepIf, has, total, one}
-use Rattle.trees.specs.Trees.{none, up, line, Below, here, step, nodes, kids, kid, Leaf, Inner}
-use Rattle.trees.proofs.Lists.{only, total-cong, total-add, total-zero, total-swap, total-keep, total-at, total-out, has-range, range-has, has-keep, keep-has, keep-asc, has-head, has-tail, has-cases}
+use lib.Dec.{T, eqb, eqb→eq, eqb-refl}
+use borrow.Author.Tests.{eq-eqb, ne-eqb}
+use Rattle.trees.specs.Lists.{has, total, one}
+use Rattle.trees.specs.Trees.{none, up, Below, here, step, nodes, kids, kid, Leaf, Inner}
+use Rattle.trees.proofs.Lists.{only, total-cong, total-add, total-swap, total-keep, total-at, total-out, has-range, range-has, has-keep, keep-has, keep-asc, has-head, has-tail, has-cases}
 use Rattle.trees.proofs.Lines.{Grounded, proper, line-up, depth-below}
 
 pub record Rooted (par : List ℕ) : Type 0 where

@@ -9,3 +9,4 @@ pub mod Sound
 pub mod Shape
 pub mod Judged
 pub mod Lent
+pub mod One

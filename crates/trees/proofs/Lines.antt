@@ -5,11 +5,11 @@ use native.Mathlib.Omega.{arith}
 use native.Mathlib.Decide.{decLt}
 use mathlib.Core.Path.{_≡_, refl, sym, ap, _∙_, subst}
 use mathlib.Core.Logic.{_⊎_, inl, inr}
-use mathlib.Core.Bool.{Bool, true, false, _||_}
+use mathlib.Core.Bool.{Bool, true}
 use mathlib.Core.List.{List, [], _∷_}
 use lib.ListN.{length, getD}
-use lib.Dec.{T, eqb, ltb, eqb→eq, eqb-refl}
-use borrow.Author.Tests.{lt-ltb, le-ltb, ltb-true, ltb-false}
+use lib.Dec.{T, eqb, eqb→eq, eqb-refl}
+use borrow.Author.Tests.{lt-ltb, le-ltb}
 use Rattle.trees.specs.Lists.{has, total, one}
 use Rattle.trees.proofs.Lists.{getD-any}
 use Rattle.trees.proofs.Bools.{or-left, or-right, or-cases, one-T}

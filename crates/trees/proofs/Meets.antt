@@ -1,12 +1,12 @@
 -- Where two lines meet, and the climb that finds it. Assumes nothing.
-use Prim.Native.Nat.{ℕ, zero, suc, _+_, _≤_, _<_}
+use Prim.Native.Nat.{ℕ, _≤_, _<_}
 use native.Mathlib.Omega.{arith}
-use mathlib.Core.Path.{_≡_, refl, sym, ap, _∙_}
-use mathlib.Core.Logic.{_⊎_, inl, inr, _≢_}
+use mathlib.Core.Path.{_≡_, sym}
+use mathlib.Core.Logic.{inl, inr, _≢_}
 use mathlib.Core.List.{List}
 use lib.ListN.{length}
 use Rattle.trees.specs.Trees.{up, Below, here, step, Meet}
-use Rattle.trees.proofs.Lines.{Grounded, proper, trans, antisym, low-node}
+use Rattle.trees.proofs.Lines.{Grounded, proper, antisym, low-node}
 
 module _ {par : List ℕ} where
   pub meet-self : {a : ℕ} → a < length par → Meet par a a a

@@ -1,18 +1,17 @@
 -- Trees with one root: every node lies below it, and what the first node of a line that passes a test is. Assumes nothing.
-use Prim.Native.Nat.{ℕ, zero, suc, _+_, _≤_, _<_}
+use Prim.Native.Nat.{ℕ, zero, suc, _<_}
 use native.Mathlib.Omega.{arith}
 use native.Mathlib.Decide.{ℕ-discrete}
-use mathlib.Core.Path.{_≡_, refl, sym, ap, _∙_}
-use mathlib.Core.Logic.{_⊎_, inl, inr}
-use mathlib.Core.Bool.{Bool, true, false}
-use mathlib.Core.List.{List, [], _∷_}
+use mathlib.Core.Logic.{inl, inr}
+use mathlib.Core.Bool.{Bool}
+use mathlib.Core.List.{List}
 use lib.ListN.{length}
 use lib.Dec.{T}
 use Rattle.trees.specs.Lists.{first}
 use Rattle.trees.specs.Trees.{none, up, line, Below, here, step}
 use Rattle.trees.proofs.Bools.{test, T-true, true-T}
 use Rattle.trees.proofs.Lists.{first-yes, first-no}
-use Rattle.trees.proofs.Lines.{Grounded, line-in}
+use Rattle.trees.proofs.Lines.{line-in}
 use Rattle.trees.proofs.Kids.{Rooted}
 
 module _ {par : List ℕ} (R : Rooted par) where

@@ -2,10 +2,9 @@
 use Prim.Native.Nat.{ℕ, _≤_, _<_}
 use native.Mathlib.Omega.{arith}
 use mathlib.Core.Path.{_≡_, refl, sym, ap, _∙_}
-use mathlib.Core.Logic.{_⊎_, inl, inr, _≢_, _↔_}
-use mathlib.Core.Bool.{Bool, true, false}
+use mathlib.Core.Logic.{_⊎_, inl, inr, _↔_}
+use mathlib.Core.Bool.{Bool}
 use mathlib.Core.List.{List, [], _∷_, _++_}
-use lib.Dec.{T, eqb}
 use borrow.Author.Tests.{eq-eqb, ne-eqb}
 use Rattle.trees.specs.Lists.{lowest}
 use Rattle.trees.specs.Rulings.{Ruling, accepted, refused, refusedBy, Rule, whole, each, pick, ruling, numberOf, treeOf, Passes, Fails, Every, done, and}

@@ -2,18 +2,18 @@
 use Prim.Native.Nat.{ℕ, zero, suc, _+_, _*_, _≤_, _<_}
 use native.Mathlib.Omega.{arith}
 use native.Mathlib.Decide.{decLt, ℕ-discrete}
-use mathlib.Core.Path.{_≡_, refl, sym, ap, ap₂, _∙_}
-use mathlib.Core.Logic.{_⊎_, inl, inr, _≢_}
-use mathlib.Core.Bool.{Bool, true, false, not}
+use mathlib.Core.Path.{_≡_, refl, sym, _∙_}
+use mathlib.Core.Logic.{_⊎_, inl, inr}
+use mathlib.Core.Bool.{true, not}
 use mathlib.Core.List.{List, [], _∷_}
 use lib.ListN.{length}
 use lib.Dec.{T, eqb}
 use borrow.Author.Tests.{eq-eqb, ne-eqb}
 use Rattle.trees.specs.Lists.{range, has, total, one}
-use Rattle.trees.specs.Trees.{none, up, line, Below, here, step, nodes, kids, Leaf, Inner, isLeaf, depth}
-use Rattle.trees.proofs.Bools.{one-T, test, true-T}
-use Rattle.trees.proofs.Lists.{only, has-head, has-tail, has-cases, range-has, total-cong, total-add, total-swap, total-at, total-zero, total-none, total-le}
-use Rattle.trees.proofs.Lines.{Grounded, line-in, line-out, off-line, top-node}
+use Rattle.trees.specs.Trees.{up, line, nodes, kids, Leaf, Inner, isLeaf, depth}
+use Rattle.trees.proofs.Bools.{test, true-T}
+use Rattle.trees.proofs.Lists.{only, has-head, has-tail, total-cong, total-add, total-swap, total-at, total-none, total-le}
+use Rattle.trees.proofs.Lines.{line-in, line-out, off-line, top-node}
 use Rattle.trees.proofs.Kids.{Rooted, node-has, kids-has, kids-two, leaf-alone, none-has, not-over, sum-kids}
 use Rattle.trees.proofs.Sound.{leaf-is}
 

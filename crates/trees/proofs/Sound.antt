@@ -1,20 +1,18 @@
 -- Sound tables are trees. Here alone the numbering is read: a node's number is the rank that falls from it to its parent. Assumes nothing.
-use Prim.Native.Nat.{ℕ, zero, suc, _+_, _≤_, _<_}
+use Prim.Native.Nat.{ℕ, _≤_, _<_}
 use native.Mathlib.Omega.{arith}
 use native.Mathlib.Decide.{ℕ-discrete}
-use mathlib.Core.Path.{_≡_, refl, sym, ap, _∙_}
-use mathlib.Core.Logic.{_⊎_, inl, inr, _≢_, _↔_}
-use mathlib.Core.Bool.{Bool, true, false, _&&_}
+use mathlib.Core.Path.{_≡_, refl, sym, _∙_}
+use mathlib.Core.Logic.{_⊎_, _↔_}
+use mathlib.Core.Bool.{Bool, false, _&&_}
 use mathlib.Core.List.{List}
 use lib.ListN.{length}
 use lib.Dec.{T, eqb, eqb→eq, eqb-refl}
-use Rattle.trees.specs.Lists.{first}
-use Rattle.trees.specs.Trees.{none, up, Below, nodes, kids, Leaf, Inner, isLeaf}
+use Rattle.trees.specs.Trees.{none, Below, nodes, kids, Leaf, Inner, isLeaf}
 use Rattle.trees.specs.Tables.{taxon, Pair, carrier, home}
-use Rattle.trees.specs.Sound.{SoundTree, SoundSpecies, Sound}
+use Rattle.trees.specs.Sound.{SoundTree, Sound}
 use Rattle.trees.proofs.Bools.{and-both, and-left, and-right}
 use Rattle.trees.proofs.Lists.{first-has}
-use Rattle.trees.proofs.Lines.{Grounded}
 use Rattle.trees.proofs.Kids.{Rooted, has-node, node-has}
 
 pub rooted : {par tax : List ℕ} → SoundTree par tax → Rooted par

@@ -5,3 +5,4 @@ pub mod Tables
 pub mod Sound
 pub mod Rules
 pub mod Lent
+pub mod One

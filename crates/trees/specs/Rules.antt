@@ -7,8 +7,8 @@
 --   known w x         == 6: "gene leaf's taxon isn't a species taxon"
 --   treeRules, speciesRules, geneRules, pairRules == the rules in 01's order
 -- Each is the test that holds where nothing is refused. Only `ordered` asks how nodes are numbered. Assumes nothing.
-use Prim.Native.Nat.{ℕ, zero, suc}
-use mathlib.Core.Bool.{Bool, true, false, _&&_, _||_, not}
+use Prim.Native.Nat.{ℕ}
+use mathlib.Core.Bool.{Bool, _&&_, _||_, not}
 use mathlib.Core.List.{List, [], _∷_, _++_}
 use lib.ListN.{length}
 use lib.Dec.{eqb, ltb, leb}

@@ -5,9 +5,9 @@
 --   home w x          == the species leaf of the taxon of gene node x                 (01, "the species leaf of its taxon")
 -- Assumes nothing.
 use Prim.Native.Nat.{ℕ}
-use mathlib.Core.Bool.{Bool, _&&_}
+use mathlib.Core.Bool.{_&&_}
 use mathlib.Core.List.{List}
-use lib.ListN.{length, getD}
+use lib.ListN.{getD}
 use lib.Dec.{eqb}
 use Rattle.trees.specs.Lists.{first}
 use Rattle.trees.specs.Trees.{none, nodes, isLeaf}

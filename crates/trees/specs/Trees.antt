@@ -12,7 +12,7 @@
 --                        the number of steps from s up to the root                   (01, "Depth is the number of steps up to the root")
 --   Meet par a b m    <-> m is the lowest common ancestor of a and b
 -- None of it asks how nodes are numbered. Assumes nothing.
-use Prim.Native.Nat.{ℕ, zero, suc, _≤_, _<_}
+use Prim.Native.Nat.{ℕ, zero, suc, _<_}
 use mathlib.Core.Path.{_≡_}
 use mathlib.Core.Bool.{Bool, true, false}
 use mathlib.Core.List.{List, [], _∷_}

@@ -1,2 +1,5 @@
 pub mod Words
 pub mod Tables
+pub mod Pieces
+pub mod Fronts
+pub mod One

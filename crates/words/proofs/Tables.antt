@@ -1,18 +1,15 @@
 -- One turn of each loop over a table: the entry that is read, the entry that is put, and the byte at which the next one stands. Assumes nothing.
-use Prim.Native.Nat.{ℕ, zero, suc, _+_, _-_, _*_, _/_, _%_, _<_, _≤_}
+use Prim.Native.Nat.{ℕ, _+_, _-_, _*_, _/_, _%_, _<_, _≤_}
 use native.Mathlib.Omega.{arith}
 use native.Mathlib.Nat.{zero-add}
 use native.Mathlib.Numerals.{add-one}
 use mathlib.Core.Path.{_≡_, refl, sym, ap, _∙_}
-use mathlib.Core.Bool.{Bool, true, false, _&&_}
+use mathlib.Core.Bool.{Bool, _&&_}
 use mathlib.Core.List.{List, [], _∷_, _++_, append-assoc, append-nil}
 use lib.ListN.{length, getD, take, drop, set, replicate, length-append, length-set, length-drop, drop-of-length-le, length-replicate, replicate-append-replicate}
-use lib.Seq.{paste, paste-suc, length-take-le, take-all, take-suc, getD-take, getD-drop, length-front, drop-cons}
+use lib.Seq.{paste-suc, length-take-le, take-all, take-suc, getD-take, getD-drop}
 use lib.Dec.{eqb}
-use borrow.Author.Tests.{eq-eqb, ne-eqb}
-use Rattle.trees.specs.Lists.{all}
-use Rattle.blocks.specs.Image.{blank}
-use Rattle.blocks.specs.Halves.{halves, joined, lowHigh, longsOf}
+use Rattle.blocks.specs.Halves.{halves, lowHigh, longsOf}
 use Rattle.blocks.specs.Blocks.{run, word, stored, count, content}
 use Rattle.words.specs.Words.{offset, after, puts, alike, agree, Within, Comparable}
 use Rattle.blocks.proofs.Halves.{length-halves, length-joined, getD-joined, halves-append}
@@ -59,7 +56,7 @@ filling-end old new out k f h =
 -- ---- the entry that is read
 
 module _ (s : List ℕ) where
-  length-content : length (content s) ≡ 253 * count s
+  pub length-content : length (content s) ≡ 253 * count s
   length-content = length-contents (count s) s (omega arith)
 
   pub word-content : (i : ℕ) → i < 253 * count s → getD (content s) i 0 ≡ word s (offset i)
@@ -98,26 +95,6 @@ agree-at s i c d v a b r h l e f g =
     let p = word-read s i (length c) v a (word s a) (record { room = omega (arith, h .within .room) }) l e refl in
     let q = long-read s (i + length c) (length c) v b (word s b + 65536 * word s (after b)) (record { room = omega (arith, h .within .room) }) l f refl in
     rw (← p, ← q) (sym g)
-
--- ---- words that are all zero
-
-module _ (s : List ℕ) (i k : ℕ) (b : Bool) (p : blank (drop (i + k) (content s)) ≡ b) where
-  module _ (at w : ℕ) (h : i + k < 253 * count s) (e : at ≡ offset (i + k)) (f : w ≡ word s at) where
-    blank-word : eqb w 0 && blank (drop (i + (k + 1)) (content s)) ≡ b
-    unfolding blank all
-    blank-word =
-        let z : i + (k + 1) ≡ suc (i + k) = omega arith in
-        rw (z, f, e, ← word-content s (i + k) h) (rw (drop-cons (content s) (i + k) 0 (rw (length-content s) h)) at p)
-
-    pub blank-more : w ≡ 0 → blank (drop (i + (k + 1)) (content s)) ≡ b
-    blank-more z = rw (eq-eqb w 0 z) at blank-word
-
-    pub blank-fails : (w ≡ 0 → ⊥) → false ≡ b
-    blank-fails z = rw (ne-eqb w 0 z) at blank-word
-
-  pub blank-end : 253 * count s ≤ i + k → true ≡ b
-  unfolding blank all
-  blank-end h = rw (drop-of-length-le (content s) {i = i + k} (rw (length-content s) h)) at p
 
 -- ---- words put one by one
 

@@ -3,15 +3,13 @@ use Prim.Native.Nat.{ℕ, zero, suc, _+_, _-_, _*_, _/_, _%_, _<_, _≤_}
 use native.Mathlib.Omega.{arith}
 use native.Mathlib.Nat.{add-zero}
 use native.Mathlib.Decide.{decLt, ℕ-discrete}
-use mathlib.Core.Path.{_≡_, refl, sym, ap, ap₂, _∙_}
+use mathlib.Core.Path.{_≡_, refl, sym, ap, _∙_}
 use mathlib.Core.Logic.{_≢_}
 use mathlib.Core.List.{List, [], _∷_, _++_}
-use lib.ListN.{length, getD, take, drop, set, length-set, length-drop, List·getD-append}
-use lib.Seq.{sets, length-sets, length-take-le, getD-take, getD-drop, getD-append-add, getD-set-same, getD-set-other, ext-getD, take-suc}
-use lib.Dec.{eqb}
+use lib.ListN.{length, getD, drop, set, length-set, length-drop, List·getD-append}
+use lib.Seq.{sets, length-take-le, getD-take, getD-drop, getD-append-add, getD-set-same, getD-set-other, ext-getD}
 use borrow.Author.Tests.{eq-eqb, ne-eqb}
 use Rattle.trees.specs.Rulings.{pick}
-use Rattle.blocks.specs.Halves.{joined}
 use Rattle.blocks.specs.Blocks.{run, word, stored, part, inside, contents, count, content}
 use Rattle.words.specs.Words.{offset, after, puts, Within}
 use Rattle.blocks.proofs.Halves.{getD-joined}

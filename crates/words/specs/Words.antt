@@ -4,14 +4,17 @@
 --   puts s i l         == the bytes s with the words l put from word i on, and nothing else changed
 --   alike a b c d v    == do the tables a and b agree with c and d at v?
 --   agree w i c d v    == do the two tables that stand in the words w from word i on, of one word and of two words an entry, agree with c and d at v?
+--   Together i n r     <-> r is one or more of the n words from word i on, and these stand in one block
+--   Front new old out r <-> out is old with its first r entries those of new, and r is one or more
+--   Starts new old r   <-> the first r entries of old are those of new
 --   Within s i k       <-> s has k words from word i on
 --   Comparable s i c d <-> c and d are of one length, and s has two such tables from word i on
 -- Assumes nothing.
-use Prim.Native.Nat.{ℕ, suc, _+_, _*_, _/_, _%_, _≤_}
+use Prim.Native.Nat.{ℕ, suc, _+_, _*_, _/_, _%_, _<_, _≤_}
 use mathlib.Core.Path.{_≡_}
 use mathlib.Core.Bool.{Bool, _&&_}
-use mathlib.Core.List.{List, [], _∷_}
-use lib.ListN.{length, getD}
+use mathlib.Core.List.{List, [], _∷_, _++_}
+use lib.ListN.{length, getD, take, drop}
 use lib.Dec.{eqb}
 use Rattle.trees.specs.Rulings.{pick}
 use Rattle.blocks.specs.Halves.{longsOf}
@@ -32,6 +35,20 @@ alike a b c d v = eqb (getD a v 0) (getD c v 0) && eqb (getD b v 0) (getD d v 0)
 
 abbrev pub agree : List ℕ → ℕ → List ℕ → List ℕ → ℕ → Bool
 agree w i c d v = alike (run i (length c) w) (longsOf (run (i + length c) (2 * length c) w)) c d v
+
+pub record Together (i n r : ℕ) : Type 0 where
+  pub some : 0 < r
+  pub low : r ≤ n
+  pub near : i % 253 + r ≤ 253
+
+pub record Front (new old out : List ℕ) (r : ℕ) : Type 0 where
+  pub some : 0 < r
+  pub low : r ≤ length old
+  pub is : out ≡ take r new ++ drop r old
+
+pub record Starts (new old : List ℕ) (r : ℕ) : Type 0 where
+  pub low : r ≤ length old
+  pub is : take r old ≡ take r new
 
 pub record Within (s : List ℕ) (i k : ℕ) : Type 0 where
   pub room : i + k ≤ 253 * count s

@@ -1,9 +1,10 @@
-// Where the words of an image stand. A table is passed word by word with no division.
+// Where the words of an image stand: one by one, with no division for a word, and together as far as a block goes.
 ghost use mathlib.Core.Path.{_≡_};
-ghost use Prim.Native.Nat.{_+_, _*_, _/_, _%_, _<_};
+ghost use Prim.Native.Nat.{_+_, _*_, _/_, _%_, _<_, _≤_};
 ghost use lib.ListN.{length};
-ghost use Rattle.blocks.specs.Blocks.{word, stored};
-ghost use Rattle.words.specs.Words.{offset, after};
+ghost use Rattle.blocks.specs.Halves.{wordsOf};
+ghost use Rattle.blocks.specs.Blocks.{run, word, stored, content};
+ghost use Rattle.words.specs.Words.{offset, after, Together, Within};
 use blocks::word;
 
 // The byte at which word i stands.
@@ -22,7 +23,26 @@ pub(crate) fn next(at: usize) -> usize
     if at % 512 == 506 { at + 8 } else { at + 2 }
 }
 
-fn low_high(low: u16, high: u16) -> u32
+// How many of the n words from word i on stand side by side: all, or as many as the block of word i has from there on.
+pub(crate) fn together(i: usize, n: usize) -> usize
+    requires { ⌜ 0 < n ⌝ }
+    ensures { λ r. ⌜ Together i n r ⌝ }
+{
+    let m = 253 - i % 253;
+    if m < n { m } else { n }
+}
+
+// The bytes of m words from word i on that stand side by side.
+pub(crate) fn bytes_of(image: &[u8], i: usize, m: usize) -> &[u8]
+    requires { ⌜ Within (now image) i m × (0 < m) × (i % 253 + m ≤ 253) ⌝ }
+    ensures { λ r. ⌜ (length (now r) ≡ 2 * m) × (wordsOf (now r) ≡ run i m (content (now (image .entry)))) ⌝ }
+{
+    let a = offset_of(i);
+    let e = a + 2 * m;
+    &image[a..e]
+}
+
+pub(crate) fn low_high(low: u16, high: u16) -> u32
     ensures { λ r. ⌜ r ≡ low + 65536 * high ⌝ }
 {
     (low as u32) + 65536 * (high as u32)

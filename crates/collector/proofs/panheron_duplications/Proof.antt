@@ -1,5 +1,4 @@
 -- `collector::panheron_duplications`. Assumes nothing.
-use Prim.Native.Nat.{_%_}
 use mathlib.Core.Path.{sym, ap, _∙_}
 use Rattle.trees.specs.Rulings.{Ruling}
 use Rattle.families.specs.Loading.{Contents}
@@ -8,27 +7,19 @@ use Rattle.collector.specs.Host.{duplicationsIn}
 use borrow.Author.Needs.{needs}
 use Rattle.collector.proofs.panheron_duplications.Statement.{statement}
 use Rattle.collector.proofs.panheron_duplications.Tie as tie
-use Rattle.collector.proofs.panheron_duplications.Reads as reads
-use Rattle.collector.proofs.panheron_duplications.Lts as lts
-use Rattle.collector.proofs.ask.ask.Reads as ask-reads
 
--- src/lib.rt:40:9
 ask-requires : tie.Need-ask-requires
 ask-requires c κs = search needs
 
--- src/lib.rt:42:24
 enum-known-answer : tie.Need-enum-known-answer
 enum-known-answer c = search needs
 
--- src/lib.rt:43:31
 enum-told : tie.Need-enum-told
 enum-told c = search needs
 
--- src/lib.rt:36:1
 returns : tie.Need-returns
 returns c = ap (λ (x : Ruling Contents). duplicationsIn x) (sym (ap loadedOf (c .before .answer .given .1)) ∙ c .before .before .before .ask .ensures)
 
--- src/lib.rt:36:1
 returns-2 : tie.Need-returns-2
 returns-2 c = ap (λ (x : Ruling Contents). duplicationsIn x) (sym (ap loadedOf (c .enum-told .given .1)) ∙ c .before .before .ask .ensures)
 

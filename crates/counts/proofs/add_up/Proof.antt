@@ -1,10 +1,10 @@
 -- `counts::add_up`: the sums over the nodes passed. Assumes nothing.
-use Prim.Native.Nat.{ℕ, _+_, _-_, _*_, _≤_, _<_}
+use Prim.Native.Nat.{_+_, _-_, _≤_}
 use native.Mathlib.Omega.{arith}
 use mathlib.Core.Path.{_≡_, refl, sym, ap, ap₂, _∙_}
-use lib.ListN.{length, getD}
-use Rattle.trees.specs.Lists.{range, total, one}
-use Rattle.counts.specs.Tallies.{stepsOf, kindsTo, stepsTo, tallied}
+use lib.ListN.{length}
+use Rattle.trees.specs.Lists.{range, total}
+use Rattle.counts.specs.Tallies.{kindsTo, stepsTo, tallied}
 use Rattle.counts.proofs.Tallying.{kinds-more, steps-more, step-of, steps-fit}
 use borrow.Author.Needs.{needs}
 use Rattle.counts.proofs.add_up.Statement.{statement}

@@ -1,5 +1,4 @@
 -- `counts::steps_of`. Assumes nothing.
-use Prim.Native.Nat.{ℕ, _<_}
 use native.Mathlib.Omega.{arith}
 use lib.ListN.{length, getD}
 use borrow.Author.Tests.{lt-ltb, le-ltb}

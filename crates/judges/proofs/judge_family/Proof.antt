@@ -3,8 +3,10 @@ use mathlib.Core.Path.{_≡_, sym, ap, _∙_}
 use Rattle.trees.specs.Rulings.{verdict, accepted, fine}
 use Rattle.trees.specs.Rules.{shapeRules}
 use Rattle.trees.specs.Tables.{Pair, pair}
+use Rattle.trees.proofs.Bools.{true-T}
 use Rattle.judges.specs.Answers.{judgedOf}
-use Rattle.judges.proofs.Shapes.{family-shape, family-6, family-right}
+use Rattle.judges.proofs.Leaves.{species-alone}
+use Rattle.judges.proofs.Shapes.{family-shape, family-known, family-6, family-right}
 use borrow.Author.Needs.{needs}
 use Rattle.judges.proofs.judge_family.Statement.{statement}
 use Rattle.judges.proofs.judge_family.Tie as tie
@@ -32,17 +34,20 @@ enum-told-2 c = search needs
 returns : tie.Need-returns
 returns c = let s = start (c .before .before) in let e = ap judgedOf (c .enum-told2 .given .1) in e ∙ sym (family-shape (tables s) (s .pre .0 .tree) (s .pre .1) _ _ _ (sym (c .before .before .judge-shape .ensures) ∙ e))
 
+returns-2 : tie.Need-returns-2
+returns-2 c = let k = c .before in let s = start (k .before .before) in sym (family-known (tables s) (s .pre .0 .tree) (s .pre .1) (shape-fine k) (s .pre .2 (true-T (c .if1 .taken))))
+
 first-unknown-requires : tie.Need-first-unknown-requires
-first-unknown-requires c κs = search needs
+first-unknown-requires c κs = species-alone (start (c .before .before .before) .pre .0)
 
 refuse-requires : tie.Need-refuse-requires
 refuse-requires c κs = search needs
 
-returns-2 : tie.Need-returns-2
-returns-2 c = let k = c .before .before .before in let s = start (k .before .before) in ap judgedOf (c .refuse .ensures) ∙ sym (family-6 (tables s) (s .pre .0 .tree) (s .pre .1) (shape-fine k) _ (c .before .before .first-unknown .ensures) (c .before .if1 .taken))
-
 returns-3 : tie.Need-returns-3
-returns-3 c = let k = c .before .before in let s = start (k .before .before) in sym (family-right (tables s) (s .pre .0 .tree) (s .pre .1) (shape-fine k) _ (c .before .first-unknown .ensures) (c .if1 .left))
+returns-3 c = let k = c .before .before .before .before in let s = start (k .before .before) in ap judgedOf (c .refuse .ensures) ∙ sym (family-6 (tables s) (s .pre .0 .tree) (s .pre .1) (shape-fine k) _ (c .before .before .first-unknown .ensures) (c .before .if2 .taken))
+
+returns-4 : tie.Need-returns-4
+returns-4 c = let k = c .before .before .before in let s = start (k .before .before) in sym (family-right (tables s) (s .pre .0 .tree) (s .pre .1) (shape-fine k) _ (c .before .first-unknown .ensures) (c .if2 .left))
 
 pub judge-family-spec : {M : Type 1} → statement M
 judge-family-spec =
@@ -52,7 +57,8 @@ judge-family-spec =
     enum-told
     enum-told-2
     returns
+    returns-2
     first-unknown-requires
     refuse-requires
-    returns-2
-    returns-3)
+    returns-3
+    returns-4)

@@ -49,7 +49,7 @@ returns-2 : tie.Need-returns-2
 returns-2 c = let k = c .before .before .before in ap judgedOf (c .refuse .ensures) ∙ sym (pair-1 (tables (start (k .before .before))) (species-fine k) (sym (c .before .before .sized-tables .ensures) ∙ not-true _ (c .before .if1 .taken)))
 
 judge-family-requires : tie.Need-judge-family-requires
-judge-family-requires c κs = let k = c .before .before in (species-here (tables (start (k .before .before))) (species-fine k), sized-here c)
+judge-family-requires c κs = let k = c .before .before in (species-here (tables (start (k .before .before))) (species-fine k), sized-here c, λ t. absurd t)
 
 returns-3 : tie.Need-returns-3
 returns-3 c = let k = c .before .before .before in c .judge-family .ensures ∙ sym (pair-family (tables (start (k .before .before))) (species-fine k) (sized-here (c .before)))

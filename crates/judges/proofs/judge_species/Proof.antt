@@ -6,6 +6,7 @@ use Rattle.trees.specs.Rulings.{verdict, accepted, fine}
 use Rattle.trees.specs.Rules.{sized, shapeRules}
 use borrow.Author.Tests.{not-true, not-false}
 use Rattle.trees.proofs.Bools.{true-T}
+use Rattle.trees.proofs.Judged.{sized-is}
 use Rattle.judges.specs.Answers.{judgedOf}
 use Rattle.judges.proofs.Shapes.{species-1, species-shape, species-5, species-right}
 use borrow.Author.Needs.{needs}
@@ -48,7 +49,7 @@ returns-2 : tie.Need-returns-2
 returns-2 c = let e = ap judgedOf (c .enum-told2 .given .1) in e ∙ sym (species-shape _ _ (sized-here (c .before .before .before)) _ _ _ (sym (c .before .before .judge-shape .ensures) ∙ e))
 
 first-repeated-requires : tie.Need-first-repeated-requires
-first-repeated-requires c κs = search needs
+first-repeated-requires c κs = let z = sized-is _ _ (sized-here (c .before .before .before)) in omega (arith, z .few, z .even)
 
 refuse-requires-2 : tie.Need-refuse-requires-2
 refuse-requires-2 c κs = search needs

@@ -1,8 +1,5 @@
 -- `least::date`: dating by the tables that the fill leaves. Assumes nothing.
-use Prim.Native.Nat.{ℕ, _≤_}
-use native.Mathlib.Omega.{arith}
 use mathlib.Core.Path.{_≡_, refl, sym, ap, _∙_}
-use lib.ListN.{length, length-replicate}
 use Rattle.trees.specs.Rulings.{verdict, accepted, fine}
 use Rattle.trees.specs.Tables.{Pair, pair}
 use Rattle.trees.specs.Rules.{pairRules}

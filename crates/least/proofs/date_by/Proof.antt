@@ -1,7 +1,7 @@
 -- `least::date_by`: the nearest speciation is the first on what is left of the line. Assumes nothing.
-use Prim.Native.Nat.{ℕ, _≤_, _<_}
+use Prim.Native.Nat.{_≤_}
 use native.Mathlib.Omega.{arith}
-use mathlib.Core.Path.{_≡_, refl, sym, _∙_}
+use mathlib.Core.Path.{_≡_, refl, _∙_}
 use lib.ListN.{length, getD}
 use Rattle.trees.specs.Trees.{line}
 use Rattle.trees.specs.Tables.{Pair}

@@ -1,9 +1,8 @@
 -- `least::fill`: the leaves passed, and all that follows from them, are done. Assumes nothing.
-use Prim.Native.Nat.{ℕ, _+_, _-_, _≤_, _<_}
-use native.Mathlib.Omega.{arith}
+use Prim.Native.Nat.{_-_, _≤_}
 use mathlib.Core.Path.{_≡_, refl, _∙_}
 use lib.ListN.{length}
-use Rattle.trees.specs.Tables.{Pair, pair}
+use Rattle.trees.specs.Tables.{pair}
 use Rattle.least.proofs.Turns.{Filling-to, to-start, to-next, to-end}
 use borrow.Author.Needs.{needs}
 use Rattle.least.proofs.fill.Statement.{statement}

@@ -1,6 +1,6 @@
 -- `least::finish`: the place is where the two meet. Assumes nothing.
 use native.Mathlib.Omega.{arith}
-use mathlib.Core.Path.{refl, ap, _∙_}
+use mathlib.Core.Path.{refl, ap}
 use lib.ListN.{set}
 use Rattle.trees.proofs.Lines.{top-node}
 use borrow.Author.Needs.{needs}

@@ -1,9 +1,8 @@
 -- `least::go_up`: on the way up all that is done is right. Assumes nothing.
 use borrow.Author.Needs.{needs}
-use Prim.Native.Nat.{ℕ, _≤_, _<_}
+use Prim.Native.Nat.{_≤_, _<_}
 use native.Mathlib.Omega.{arith}
-use mathlib.Core.Path.{_≡_, refl, sym, _∙_}
-use mathlib.Core.Logic.{_≢_}
+use mathlib.Core.Path.{_≡_, refl}
 use lib.ListN.{length, getD, length-set}
 use Rattle.trees.specs.Trees.{depth}
 use Rattle.trees.specs.Tables.{Pair, pair}

@@ -1,7 +1,7 @@
 -- `least::join`: where the two meet now is where they met at first. Assumes nothing.
 use Prim.Native.Nat.{ℕ, _+_, _<_}
 use native.Mathlib.Omega.{arith}
-use lib.ListN.{length, getD}
+use lib.ListN.{length}
 use Rattle.trees.specs.Trees.{Meet}
 use Rattle.trees.proofs.Meets.{meet-self, meet-swap}
 use Rattle.least.proofs.Joins.{Turn, turn}

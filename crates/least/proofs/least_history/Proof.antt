@@ -10,7 +10,7 @@ use Rattle.judges.specs.Answers.{judgedOf}
 use Rattle.histories.proofs.Rooms.{short-places, short-labels}
 use Rattle.counts.specs.Tallies.{talliedOf}
 use Rattle.least.specs.Answers.{Outcome}
-use Rattle.least.proofs.Outcomes.{filled-story, filled-tally, least-refused, least-sound, least-short, least-done, counts-from}
+use Rattle.least.proofs.Outcomes.{filled-story, filled-tally, least-refused, least-short, least-done, counts-from}
 use borrow.Author.Needs.{needs}
 use Rattle.least.proofs.least_history.Statement.{statement}
 use Rattle.least.proofs.least_history.Tie as tie

@@ -1,9 +1,9 @@
 -- `least::mark`: the labels passed are 3. Assumes nothing.
-use Prim.Native.Nat.{ℕ, _+_, _-_, _≤_, _<_}
+use Prim.Native.Nat.{ℕ, _-_, _≤_, _<_}
 use native.Mathlib.Omega.{arith}
 use mathlib.Core.Path.{_≡_}
 use borrow.Author.Count.{below-none}
-use lib.ListN.{length, getD}
+use lib.ListN.{getD}
 use Rattle.least.specs.Filling.{Kept}
 use Rattle.least.proofs.Turns.{kept-self, mark-turn}
 use borrow.Author.Needs.{needs}

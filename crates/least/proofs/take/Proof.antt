@@ -1,6 +1,5 @@
 -- `least::take`: a leaf gets the place of its taxon and goes up. Assumes nothing.
 use native.Mathlib.Omega.{arith}
-use mathlib.Core.Path.{_∙_}
 use Rattle.trees.specs.Tables.{Pair, pair}
 use Rattle.least.specs.Filling.{Risen}
 use Rattle.least.proofs.Turns.{take-inner, take-leaf, take-risen, home-fits}

@@ -3,7 +3,7 @@ use mathlib.Core.Path.{_≡_}
 use lib.ListN.{length}
 use borrow.Author.Needs.{needs}
 use Rattle.trees.specs.Tables.{Pair, pair}
-use Rattle.text.proofs.Putting.{outcome-of}
+use Rattle.printing.proofs.Putting.{outcome-of}
 use Rattle.text.proofs.Answered.{rest-refused, rest-answered}
 use Rattle.text.proofs.answer_rest.Statement.{statement}
 use Rattle.text.proofs.answer_rest.Tie as tie
@@ -96,5 +96,3 @@ answer-rest-spec =
     same-length-9
     same-length-10
     returns-2)
-
--- x

@@ -52,5 +52,3 @@ answer-sized-spec =
     answer-rest-requires
     same-length
     returns)
-
--- x

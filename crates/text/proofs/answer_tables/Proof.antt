@@ -7,7 +7,7 @@ use lib.ListN.{length, take}
 use lib.Seq.{length-take-le}
 use borrow.Author.Needs.{needs}
 use Rattle.trees.specs.Tables.{Pair, pair}
-use Rattle.text.proofs.Putting.{outcome-of}
+use Rattle.printing.proofs.Putting.{outcome-of}
 use Rattle.text.proofs.Answered.{answered-refused, answered-done}
 use Rattle.text.proofs.answer_tables.Statement.{statement}
 use Rattle.text.proofs.answer_tables.Tie as tie
@@ -109,5 +109,3 @@ answer-tables-spec =
     returns
     same-length-2
     returns-2)
-
--- x

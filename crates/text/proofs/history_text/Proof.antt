@@ -1,9 +1,9 @@
 -- `text::history_text`: the counts are refused, or read and the rest is answered. Assumes nothing.
 use borrow.Author.Needs.{needs}
-use Rattle.text.specs.Printing.{printed}
-use Rattle.text.proofs.Counted.{sizes-read}
-use Rattle.text.proofs.Putting.{outcome-of, outcome-counts}
-use Rattle.text.proofs.Answered.{counts-refused}
+use Rattle.reading.proofs.Counted.{sizes-read}
+use Rattle.printing.specs.Printing.{printed}
+use Rattle.printing.proofs.Putting.{outcome-of}
+use Rattle.text.proofs.Answered.{counts-refused, outcome-counts}
 use Rattle.text.proofs.history_text.Statement.{statement}
 use Rattle.text.proofs.history_text.Tie as tie
 
@@ -52,5 +52,3 @@ history-text-spec =
     returns
     same-length-2
     returns-2)
-
--- x

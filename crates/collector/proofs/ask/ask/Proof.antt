@@ -11,13 +11,7 @@ use Rattle.collector.proofs.Asking.{host-unfit, host-fit, host-long, fi
 use borrow.Author.Needs.{needs}
 use Rattle.collector.proofs.ask.ask.Statement.{statement}
 use Rattle.collector.proofs.ask.ask.Tie as tie
-use Rattle.collector.proofs.ask.ask.Reads as reads
-use Rattle.collector.proofs.ask.ask.Lts as lts
-use Rattle.collector.proofs.ask.fitting.Reads as fitting-reads
-use Rattle.collector.proofs.ask.no_tables.Reads as no-tables-reads
-use Rattle.collector.proofs.ask.on_bytes.Reads as on-bytes-reads
 
--- src/ask.rt:75:9
 abbrev start : tie.After-fitting → tie.Start
 start c = c .before .before .before .before
 
@@ -27,43 +21,33 @@ fit-here c = sym (c .before .fitting .ensures) ∙ not-false _ (c .if1 .left)
 fitting-requires : tie.Need-fitting-requires
 fitting-requires c κs = search needs
 
--- src/ask.rt:76:9
 no-tables-requires : tie.Need-no-tables-requires
 no-tables-requires c κs = search needs
 
--- src/ask.rt:76:9
 returns : tie.Need-returns
 returns c = ap loadedOf (c .no-tables .ensures) ∙ host-unfit _ _ _ (sym (c .before .before .fitting .ensures) ∙ not-true _ (c .before .if1 .taken))
 
--- src/ask.rt:80:9
 no-tables-requires-2 : tie.Need-no-tables-requires-2
 no-tables-requires-2 c κs = search needs
 
--- src/ask.rt:80:9
 returns-2 : tie.Need-returns-2
 returns-2 c = ap loadedOf (c .no-tables2 .ensures) ∙ host-long _ _ _ (fit-here (c .before .before)) (c .before .if2 .taken)
 
--- src/ask.rt:88:9
 array-borrow-prefix-species-parents : tie.Need-array-borrow-prefix-species-parents
 array-borrow-prefix-species-parents c = search needs
 
--- src/ask.rt:88:9
 slice-aggregate-on-bytes : tie.Need-slice-aggregate-on-bytes
 slice-aggregate-on-bytes c = sym (length-take-le _ _ (omega arith))
 
--- src/ask.rt:89:9
 array-borrow-prefix-species-taxa : tie.Need-array-borrow-prefix-species-taxa
 array-borrow-prefix-species-taxa c = search needs
 
--- src/ask.rt:89:9
 slice-aggregate-on-bytes-2 : tie.Need-slice-aggregate-on-bytes-2
 slice-aggregate-on-bytes-2 c = sym (length-take-le _ _ (omega arith))
 
--- src/ask.rt:84:5
 on-bytes-requires : tie.Need-on-bytes-requires
 on-bytes-requires c κs = let f = fit-lengths _ _ (fit-here (c .before .before .before)) in (f .0 ∙ ap (λ x. 2 * x) (sym (length-take-le _ _ (omega arith))), f .1 ∙ ap (λ x. 4 * x) (sym (length-take-le _ _ (omega arith))))
 
--- src/ask.rt:72:1
 returns-3 : tie.Need-returns-3
 returns-3 c = let o = c .before .before in o .on-bytes .ensures ∙ host-fit _ _ _ (fit-here (o .before .before .before .before))
 

@@ -3,18 +3,13 @@ use Rattle.collector.proofs.Asking.{fits-odd, fits-part, fits-same}
 use borrow.Author.Needs.{needs}
 use Rattle.collector.proofs.ask.fitting.Statement.{statement}
 use Rattle.collector.proofs.ask.fitting.Tie as tie
-use Rattle.collector.proofs.ask.fitting.Reads as reads
-use Rattle.collector.proofs.ask.fitting.Lts as lts
 
--- src/ask.rt:63:9
 returns : tie.Need-returns
 returns c = fits-odd _ _ (c .if1 .taken)
 
--- src/ask.rt:66:9
 returns-2 : tie.Need-returns-2
 returns-2 c = fits-part _ _ (search needs) (c .if2 .taken)
 
--- src/ask.rt:59:1
 returns-3 : tie.Need-returns-3
 returns-3 c = fits-same _ _ (search needs) (search needs)
 

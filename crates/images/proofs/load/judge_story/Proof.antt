@@ -6,12 +6,13 @@ use Rattle.trees.specs.Rulings.{verdict, accepted, fine}
 use Rattle.trees.specs.Rules.{familyRules}
 use Rattle.trees.specs.Tables.{Pair, pair}
 use Rattle.judges.specs.Answers.{judgedOf}
+use Rattle.judges.proofs.Leaves.{homed-known}
 use Rattle.images.proofs.Stories.{story-trees, story-descent, story-sound}
 use Rattle.images.proofs.load.judge_story.Statement.{statement}
 use Rattle.images.proofs.load.judge_story.Tie as tie
 
 abbrev start : tie.After-judge-family → tie.Start
-start c = c .before .before .before .before .before .before .before
+start c = c .before .before .before .before .before .before .before .before
 
 abbrev trees : tie.Start → Pair
 trees s = pair (s .args .species-parents .now) (s .args .species-taxa .now) (s .args .gene-parents .now) (s .args .gene-taxa .now)
@@ -19,8 +20,11 @@ trees s = pair (s .args .species-parents .now) (s .args .species-taxa .now) (s .
 trees-fine : (c : tie.After-enum-told) → verdict (familyRules (trees (start (c .before .before)))) ≡ accepted fine
 trees-fine c = sym (c .before .before .judge-family .ensures) ∙ ap judgedOf (c .enum-told .given .1)
 
+all-homed-requires : tie.Need-all-homed-requires
+all-homed-requires c κs = search needs
+
 judge-family-requires : tie.Need-judge-family-requires
-judge-family-requires c κs = search needs
+judge-family-requires c κs = let s = c .before .before .before .before .before .before .before in (s .pre .rack, s .pre .sized, λ t. homed-known (c .all-homed .ensures t))
 
 enum-known-judged : tie.Need-enum-known-judged
 enum-known-judged c = search needs
@@ -43,6 +47,7 @@ pub judge-story-spec : {M : Type 1} → statement M
 judge-story-spec =
     tie.close
     (tie.spec
+    all-homed-requires
     judge-family-requires
     enum-known-judged
     returns

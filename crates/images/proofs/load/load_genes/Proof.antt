@@ -1,5 +1,5 @@
 -- `load_genes` meets its contract: the tables are read, judged, and cleared where they are refused. Assumes nothing.
-use mathlib.Core.Path.{_≡_, sym, ap, _∙_}
+use mathlib.Core.Path.{sym, ap, _∙_}
 use borrow.Author.Needs.{needs}
 use Rattle.offers.specs.Answers.{offeredOf}
 use Rattle.families.specs.Loading.{Lent}

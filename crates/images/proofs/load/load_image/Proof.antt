@@ -1,5 +1,5 @@
 -- `load_image` meets its contract: the image opens and is loaded, or is refused. Assumes nothing.
-use mathlib.Core.Path.{_≡_, sym, ap, _∙_}
+use mathlib.Core.Path.{sym, ap, _∙_}
 use borrow.Author.Needs.{needs}
 use Rattle.images.specs.Answers.{openedOf}
 use Rattle.images.proofs.Loads.{opens-here, load-closed}

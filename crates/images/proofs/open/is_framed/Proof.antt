@@ -1,5 +1,5 @@
 -- `is_framed` meets its contract: each return is one of the tests. Assumes nothing.
-use mathlib.Core.Path.{_≡_, sym, _∙_}
+use mathlib.Core.Path.{sym, _∙_}
 use borrow.Author.Needs.{needs}
 use borrow.Author.Tests.{not-true, not-false}
 use Rattle.images.proofs.Opening.{framed-species, framed-genes, framed-blocks, framed-rest}

@@ -1,53 +1,42 @@
--- `blank_from` meets its contract. The loop's invariant: `at` is where word i + k stands, and the k words before it are zero.
+-- `blank_from` meets its contract. The loop's invariant: the words from i to k are zero, so those from k on decide.
 -- The measure is what is left of the words. Assumes nothing.
-use Prim.Native.Nat.{_+_, _-_, _≤_, _<_}
+use Prim.Native.Nat.{_-_, _≤_}
 use native.Mathlib.Omega.{arith}
-use native.Mathlib.Nat.{add-zero}
-use mathlib.Core.Path.{_≡_}
-use lib.ListN.{length, drop}
+use mathlib.Core.Path.{_≡_, refl}
+use lib.ListN.{drop}
 use Rattle.blocks.specs.Blocks.{content}
 use Rattle.blocks.specs.Image.{blank}
-use Rattle.words.specs.Words.{offset}
-use Rattle.words.proofs.Tables.{next-one, word-in, blank-more, blank-fails, blank-end}
+use Rattle.words.proofs.Tables.{length-content}
+use Rattle.words.proofs.Fronts.{blank-more, blank-fails, blank-end}
 use Rattle.words.proofs.read.blank_from.Statement.{statement}
 use Rattle.words.proofs.read.blank_from.Tie as tie
 
 abbrev Inv-loop : tie.InvT-loop
-Inv-loop image i n at₀ k₀ at k = (k ≤ n) × (at ≡ offset (i + k)) × (blank (drop (i + k) (content image)) ≡ blank (drop i (content image)))
+Inv-loop image i n k₀ k = (k ≤ n) × (blank (drop k (content image)) ≡ blank (drop i (content image)))
 
 abbrev μ-loop : tie.MeasureT-loop
-μ-loop image i n at₀ k₀ at k = n - k
+μ-loop image i n k₀ k = n - k
 
 abbrev entry : tie.At-loop Inv-loop μ-loop → tie.Start Inv-loop μ-loop
-entry p = p .before .before .before
-
-inside : (c : tie.In-loop Inv-loop μ-loop) → c .before .loop .at + 1 < length (entry (c .before) .args .image .now)
-inside c = word-in (entry (c .before) .args .image .now) _ (c .before .loop .at) (omega arith) (c .before .loop .inv .1)
+entry p = p .before .before
 
 mul-n : tie.Need-mul-n Inv-loop μ-loop
 mul-n c = omega arith
 
-sub-n : tie.Need-sub-n Inv-loop μ-loop
-sub-n c = omega arith
-
-offset-of-requires : tie.Need-offset-of-requires Inv-loop μ-loop
-offset-of-requires c κs = omega arith
-
 loop-holds : tie.Need-loop-holds Inv-loop μ-loop
-loop-holds c = (omega arith, rw add-zero (c .offset-of .ensures), rw add-zero)
+loop-holds c = (omega arith, refl)
 
-word-at-requires : tie.Need-word-at-requires Inv-loop μ-loop
-word-at-requires c κs = inside c
+sub-together : tie.Need-sub-together Inv-loop μ-loop
+sub-together c = omega arith
 
-returns : tie.Need-returns Inv-loop μ-loop
-returns c =
-    let t = c .before .before in
-    let p = t .before in
-    let s = entry p in
-    blank-fails (s .args .image .now) (s .args .i) (p .loop .k) _ (p .loop .inv .2) _ _ (omega (arith, t .loop-test .taken)) (p .loop .inv .1) (c .before .word-at .ensures) (c .if1 .taken)
+together-requires : tie.Need-together-requires Inv-loop μ-loop
+together-requires c κs = omega arith
 
-next-requires : tie.Need-next-requires Inv-loop μ-loop
-next-requires c κs = omega (arith, inside (c .before .before))
+bytes-of-requires : tie.Need-bytes-of-requires Inv-loop μ-loop
+bytes-of-requires c κs = let t = c .together .ensures in (record { room = omega (arith, t .low, c .before .loop-test .taken) }, t .some, t .near)
+
+zeros-requires : tie.Need-zeros-requires Inv-loop μ-loop
+zeros-requires c κs = tt
 
 add-k : tie.Need-add-k Inv-loop μ-loop
 add-k c = omega arith
@@ -58,18 +47,21 @@ loop-less c = omega arith
 loop-again : tie.Need-loop-again Inv-loop μ-loop
 loop-again c =
     let t = c .before .before .before in
-    let p = t .before in
+    let p = t .before .before in
     let s = entry p in (
-      omega (arith, t .loop-test .taken),
-      next-one (s .args .i) (p .loop .k) _ _ (p .loop .inv .1) (c .next .ensures),
-      blank-more (s .args .image .now) (s .args .i) (p .loop .k) _ (p .loop .inv .2) _ _ (omega (arith, t .loop-test .taken)) (p .loop .inv .1) (c .before .before .word-at .ensures) (c .before .if1 .left),
+      omega (arith, t .together .ensures .low, t .before .loop-test .taken),
+      blank-more (content (s .args .image .now)) (p .loop .k) _ (p .loop .inv .1) (t .together .result) _ _ (c .before .before .bytes-of .ensures .0) (c .before .before .bytes-of .ensures .1) (c .before .zeros .ensures) (c .if1 .taken),
     )
 
-returns-2 : tie.Need-returns-2 Inv-loop μ-loop
-returns-2 c =
-    let p = c .before in
+returns : tie.Need-returns Inv-loop μ-loop
+returns c =
+    let t = c .before .before .before in
+    let p = t .before .before in
     let s = entry p in
-    blank-end (s .args .image .now) (s .args .i) (p .loop .k) _ (p .loop .inv .2) (omega (arith, c .loop-test .left))
+    blank-fails (content (s .args .image .now)) (p .loop .k) _ (p .loop .inv .1) (t .together .result) _ _ (c .before .before .bytes-of .ensures .0) (c .before .before .bytes-of .ensures .1) (c .before .zeros .ensures) (c .if1 .left)
+
+returns-2 : tie.Need-returns-2 Inv-loop μ-loop
+returns-2 c = let p = c .before in blank-end (content (entry p .args .image .now)) (p .loop .k) _ (p .loop .inv .1) (omega (arith, length-content (entry p .args .image .now), c .loop-test .left))
 
 pub blank-from-spec : {M : Type 1} → statement M
 blank-from-spec =
@@ -78,13 +70,13 @@ blank-from-spec =
     Inv-loop
     μ-loop
     mul-n
-    sub-n
-    offset-of-requires
     loop-holds
-    word-at-requires
-    returns
-    next-requires
+    sub-together
+    together-requires
+    bytes-of-requires
+    zeros-requires
     add-k
     loop-less
     loop-again
+    returns
     returns-2)

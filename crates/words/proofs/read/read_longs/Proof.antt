@@ -1,52 +1,48 @@
--- `read_longs` meets its contract. The loop's invariant: `at` is where word i + 2k stands, and the first k entries are read.
--- The measure is what is left of `out`. Assumes nothing.
-use Prim.Native.Nat.{_+_, _*_, _-_, _<_}
+-- `read_longs` meets its contract. The loop's invariant: the first k entries are read. The measure is what is left of `out`. Assumes nothing.
+use Prim.Native.Nat.{_*_, _-_}
 use native.Mathlib.Omega.{arith}
-use native.Mathlib.Nat.{add-zero}
-use mathlib.Core.Path.{_≡_}
 use lib.ListN.{length}
 use Rattle.blocks.specs.Halves.{longsOf}
 use Rattle.blocks.specs.Blocks.{run, content}
-use Rattle.words.specs.Words.{offset, after}
-use Rattle.words.proofs.Words.{after-range}
-use Rattle.words.proofs.Tables.{Filling, filling-start, filling-more, filling-end, next-two, length-longs, long-in, long-read}
+use Rattle.words.proofs.Tables.{Filling, filling-start, filling-end, length-longs}
+use Rattle.words.proofs.Fronts.{longs-asked, filling-longs}
 use Rattle.words.proofs.read.read_longs.Statement.{statement}
 use Rattle.words.proofs.read.read_longs.Tie as tie
 
 abbrev Inv-loop : tie.InvT-loop
-Inv-loop image i out₀ at₀ k₀ out at k = (at ≡ offset (i + 2 * k)) × Filling out₀ (longsOf (run i (2 * length out₀) (content image))) out k
+Inv-loop image i out₀ k₀ out k = Filling out₀ (longsOf (run i (2 * length out₀) (content image))) out k
 
 abbrev μ-loop : tie.MeasureT-loop
-μ-loop image i out₀ at₀ k₀ out at k = length out₀ - k
+μ-loop image i out₀ k₀ out k = length out₀ - k
 
 abbrev entry : tie.At-loop Inv-loop μ-loop → tie.Start Inv-loop μ-loop
-entry p = p .before .before .before .before
-
-inside : (c : tie.In-loop Inv-loop μ-loop) → after (c .before .loop .at) + 1 < length (entry (c .before) .args .image .now)
-inside c = long-in (entry (c .before) .args .image .now) _ (c .before .loop .k) (c .before .loop .at) (omega arith) (c .before .loop .inv .0)
-
-offset-of-requires : tie.Need-offset-of-requires Inv-loop μ-loop
-offset-of-requires c κs = omega arith
+entry p = p .before .before .before
 
 loop-holds : tie.Need-loop-holds Inv-loop μ-loop
-loop-holds c =
-    let s = c .before .before .before in
-    (rw add-zero (c .offset-of .ensures), filling-start _ _ (length-longs (s .args .image .now) (s .args .i) _ (s .pre)))
+loop-holds c = let s = c .before .before in filling-start _ _ (length-longs (s .args .image .now) (s .args .i) _ (s .pre))
 
-long-at-requires : tie.Need-long-at-requires Inv-loop μ-loop
-long-at-requires c κs = inside c
+mul-some-longs : tie.Need-mul-some-longs Inv-loop μ-loop
+mul-some-longs c = omega arith
 
-mul-out : tie.Need-mul-out Inv-loop μ-loop
-mul-out c = omega arith
+add-some-longs : tie.Need-add-some-longs Inv-loop μ-loop
+add-some-longs c = omega arith
 
-slice-write-out : tie.Need-slice-write-out Inv-loop μ-loop
-slice-write-out c = omega arith
+mul-some-longs-2 : tie.Need-mul-some-longs-2 Inv-loop μ-loop
+mul-some-longs-2 c = omega arith
 
-next-requires : tie.Need-next-requires Inv-loop μ-loop
-next-requires c κs = omega (arith, inside (c .before), after-range (c .before .before .loop .at))
+sub-some-longs : tie.Need-sub-some-longs Inv-loop μ-loop
+sub-some-longs c = omega arith
 
-next-requires-2 : tie.Need-next-requires-2 Inv-loop μ-loop
-next-requires-2 c κs = omega (arith, inside (c .before .before))
+part-some-longs-start : tie.Need-part-some-longs-start Inv-loop μ-loop
+part-some-longs-start c = omega arith
+
+part-some-longs-end : tie.Need-part-some-longs-end Inv-loop μ-loop
+part-some-longs-end c = omega arith
+
+some-longs-requires : tie.Need-some-longs-requires Inv-loop μ-loop
+some-longs-requires c κs =
+    let p = c .before .before in
+    longs-asked (entry p .args .image .now) (entry p .args .i) _ (p .loop .k) (p .loop .out) (p .loop .inv .same) (omega arith) (entry p .pre)
 
 add-k : tie.Need-add-k Inv-loop μ-loop
 add-k c = omega arith
@@ -56,18 +52,15 @@ loop-less c = omega arith
 
 loop-again : tie.Need-loop-again Inv-loop μ-loop
 loop-again c =
-    let p = c .before .before .before .before in
-    let s = entry p in (
-      next-two (s .args .i) (p .loop .k) _ _ _ (p .loop .inv .0) (c .before .next .ensures) (c .next2 .ensures),
-      filling-more _ _ (p .loop .out) (p .loop .k) _ (p .loop .inv .1) (c .before .before .before .loop-test .taken)
-          (long-read (s .args .image .now) (s .args .i) _ (p .loop .k) _ _ (s .pre) (omega arith) (p .loop .inv .0) (c .before .before .long-at .ensures)),
-    )
+    let p = c .before .before .before .before .before in
+    let s = entry p in
+    filling-longs (s .args .image .now) (s .args .i) _ (p .loop .out) (c .before .before .some-longs .last .1 .1 .0) (p .loop .k) _ (p .loop .inv) (c .before .before .some-longs .ensures)
 
 same-length : tie.Need-same-length Inv-loop μ-loop
-same-length c = c .before .loop .inv .1 .same
+same-length c = c .before .loop .inv .same
 
 returns : tie.Need-returns Inv-loop μ-loop
-returns c = filling-end _ _ (c .before .loop .out) (c .before .loop .k) (c .before .loop .inv .1) (c .loop-test .left)
+returns c = filling-end _ _ (c .before .loop .out) (c .before .loop .k) (c .before .loop .inv) (c .loop-test .left)
 
 pub read-longs-spec : {M : Type 1} → statement M
 read-longs-spec =
@@ -75,13 +68,14 @@ read-longs-spec =
     (tie.spec
     Inv-loop
     μ-loop
-    offset-of-requires
     loop-holds
-    long-at-requires
-    mul-out
-    slice-write-out
-    next-requires
-    next-requires-2
+    mul-some-longs
+    add-some-longs
+    mul-some-longs-2
+    sub-some-longs
+    part-some-longs-start
+    part-some-longs-end
+    some-longs-requires
     add-k
     loop-less
     loop-again

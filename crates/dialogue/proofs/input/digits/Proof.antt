@@ -1,0 +1,62 @@
+-- `dialogue::digits`: the loop ends. Assumes nothing.
+use Prim.Native.Nat.{_≤_}
+use borrow.Author.Needs.{needs}
+use Rattle.dialogue.proofs.input.digits.Statement.{statement}
+use Rattle.dialogue.proofs.input.digits.Tie as tie
+
+abbrev Inv-loop : tie.InvT-loop
+Inv-loop memory₀ talk₀ value₀ left₀ memory talk value left = left ≤ left₀
+
+abbrev μ-loop : tie.MeasureT-loop
+μ-loop memory₀ talk₀ value₀ left₀ memory talk value left = left
+
+loop-holds : tie.Need-loop-holds Inv-loop μ-loop
+loop-holds c = search needs
+
+peek-requires : tie.Need-peek-requires Inv-loop μ-loop
+peek-requires c κs = search needs
+
+blank-requires : tie.Need-blank-requires Inv-loop μ-loop
+blank-requires c κs = search needs
+
+returns : tie.Need-returns Inv-loop μ-loop
+returns c = search needs
+
+grow-requires : tie.Need-grow-requires Inv-loop μ-loop
+grow-requires c κs = search needs
+
+past-requires : tie.Need-past-requires Inv-loop μ-loop
+past-requires c κs = search needs
+
+sub-left : tie.Need-sub-left Inv-loop μ-loop
+sub-left c = search needs
+
+loop-less : tie.Need-loop-less Inv-loop μ-loop
+loop-less c = search needs
+
+loop-again : tie.Need-loop-again Inv-loop μ-loop
+loop-again c = search needs
+
+spoil-requires : tie.Need-spoil-requires Inv-loop μ-loop
+spoil-requires c κs = search needs
+
+returns-2 : tie.Need-returns-2 Inv-loop μ-loop
+returns-2 c = search needs
+
+pub digits-spec : {M : Type 1} → statement M
+digits-spec =
+    tie.close
+    (tie.spec
+    Inv-loop
+    μ-loop
+    loop-holds
+    peek-requires
+    blank-requires
+    returns
+    grow-requires
+    past-requires
+    sub-left
+    loop-less
+    loop-again
+    spoil-requires
+    returns-2)

@@ -1,0 +1,15 @@
+-- `judges::passes::noted`. Assumes nothing.
+use Rattle.trees.specs.Rulings.{pick}
+use Rattle.judges.proofs.passes.noted.Statement.{statement}
+use Rattle.judges.proofs.passes.noted.Tie as tie
+
+returns : tie.Need-returns
+unfolding pick
+returns c = rw (c .if1 .taken)
+
+returns-2 : tie.Need-returns-2
+unfolding pick
+returns-2 c = rw (c .if1 .left)
+
+pub noted-spec : {M : Type 1} → statement M
+noted-spec = tie.close (tie.spec returns returns-2)

@@ -1,0 +1,17 @@
+-- `judges::shape::wanted`. Assumes nothing.
+use borrow.Author.Tests.{eq-eqb, ne-eqb}
+use Rattle.trees.specs.Rulings.{pick}
+use Rattle.judges.specs.Searches.{wantedCount}
+use Rattle.judges.proofs.shape.wanted.Statement.{statement}
+use Rattle.judges.proofs.shape.wanted.Tie as tie
+
+returns : tie.Need-returns
+unfolding wantedCount pick
+returns c = rw (eq-eqb _ 0 (c .if1 .taken))
+
+returns-2 : tie.Need-returns-2
+unfolding wantedCount pick
+returns-2 c = rw (ne-eqb _ 0 (c .if1 .left))
+
+pub wanted-spec : {M : Type 1} → statement M
+wanted-spec = tie.close (tie.spec returns returns-2)

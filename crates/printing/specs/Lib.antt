@@ -1,0 +1,3 @@
+pub mod Printing
+pub mod Putting
+pub mod Written

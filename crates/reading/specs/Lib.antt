@@ -1,0 +1,5 @@
+pub mod Numbers
+pub mod Words
+pub mod Reading
+pub mod Cursor
+pub mod Readers

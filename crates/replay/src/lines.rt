@@ -1,0 +1,104 @@
+// What each call's answer reads as: `refused` and the refusal's three numbers, or `ok` and the answer's.
+use dialogue::Line;
+use images::load::Loaded;
+use images::write::Written;
+use judges::Judged;
+use least::Dating;
+use least::DatingAnswer;
+use least::LeastAnswer;
+use offers::Offered;
+use trees::Refusal;
+
+pub(crate) fn of_refusal(r: Refusal) -> Line {
+    Line {
+        refused: true,
+        count: 3,
+        numbers: [r.number as u64, r.tree as u64, r.place as u64, 0, 0],
+    }
+}
+
+// `ok` and the first `count` numbers.
+pub(crate) fn fine(count: usize, numbers: [u64; 5]) -> Line {
+    Line {
+        refused: false,
+        count,
+        numbers,
+    }
+}
+
+pub(crate) fn of_judged(answer: Judged) -> Line {
+    match answer {
+        Judged::Sound => fine(0, [0, 0, 0, 0, 0]),
+        Judged::Refused(r) => of_refusal(r),
+    }
+}
+
+pub(crate) fn of_least(answer: LeastAnswer) -> Line {
+    match answer {
+        LeastAnswer::Done(c) => fine(
+            5,
+            [
+                c.duplications as u64,
+                c.losses as u64,
+                c.speciations as u64,
+                c.climbs as u64,
+                c.cost,
+            ],
+        ),
+        LeastAnswer::Refused(r) => of_refusal(r),
+    }
+}
+
+pub(crate) fn of_offered(answer: Offered) -> Line {
+    match answer {
+        Offered::Legal(c) => fine(
+            3,
+            [
+                c.duplications as u64,
+                c.losses as u64,
+                c.speciations as u64,
+                0,
+                0,
+            ],
+        ),
+        Offered::Refused(r) => of_refusal(r),
+    }
+}
+
+fn of_bounds(dating: Dating) -> Line {
+    match dating {
+        Dating::NotDuplication => fine(1, [0, 0, 0, 0, 0]),
+        Dating::From(s) => fine(2, [1, s.0 as u64, 0, 0, 0]),
+        Dating::Between(s, t) => fine(3, [2, s.0 as u64, t.0 as u64, 0, 0]),
+    }
+}
+
+pub(crate) fn of_dating(answer: DatingAnswer) -> Line {
+    match answer {
+        DatingAnswer::Dated(d) => of_bounds(d),
+        DatingAnswer::Refused(r) => of_refusal(r),
+    }
+}
+
+pub(crate) fn of_written(answer: Written) -> Line {
+    match answer {
+        Written::Bytes(n) => fine(1, [n as u64, 0, 0, 0, 0]),
+        Written::Refused(r) => of_refusal(r),
+    }
+}
+
+pub(crate) fn of_loaded(answer: Loaded) -> Line {
+    match answer {
+        Loaded::Family(c) => fine(
+            4,
+            [
+                c.species as u64,
+                c.genes as u64,
+                c.duplications as u64,
+                c.losses as u64,
+                0,
+            ],
+        ),
+        Loaded::Refused(r) => of_refusal(r),
+    }
+}
