@@ -1,10 +1,10 @@
 -- The two sums of a block: as totals of the bytes, as a loop keeps them, and that one changed byte shows. Assumes nothing.
 use Prim.Native.Nat.{ℕ, zero, suc, _+_, _-_, _*_, _/_, _%_, _<_, _≤_}
 use native.Mathlib.Omega.{arith}
-use native.Mathlib.Nat.{add-assoc, mod-add-div, mod-add-mod, add-mul-mod-self-left, mul-add, mul-zero, zero-mul, suc-mul, mul-suc, mul-comm, mul-left-comm}
+use native.Mathlib.Nat.{add-assoc, mod-add-div, mod-add-mod, add-mul-mod-self-left, mul-add, mul-zero, zero-mul, suc-mul, mul-suc, mul-comm, mul-left-comm, add-mul}
 use native.Mathlib.Numerals.{add-one}
 use native.Mathlib.Decide.{decLt, ℕ-discrete}
-use mathlib.Core.Path.{_≡_, sym, ap, _∙_}
+use mathlib.Core.Path.{_≡_, refl, sym, ap, subst, _∙_}
 use mathlib.Core.Logic.{_≢_, inl, inr}
 use mathlib.Core.Bool.{false}
 use mathlib.Core.List.{List, [], _∷_}
@@ -71,6 +71,38 @@ sums-none l =
       is-b = omega (arith, sum-weight start l (omega arith), mul-zero (length l));
     }
 
+word-halves : (l : List ℕ) (i m : ℕ) → getD l i 0 < 256 → getD l (i + 1) 0 < 256 → m ≡ word l i → (m % 256 ≡ getD l i 0) × (m / 256 ≡ getD l (i + 1) 0)
+unfolding word
+word-halves l i m lo hi e = (omega arith, omega arith)
+
+sum-halves : (m high a b : ℕ) → m % 256 ≡ a → high ≡ b → m % 256 + high ≡ a + b
+sum-halves m high a b e f = rw (e, f)
+
+added-on : (x a b : ℕ) → (x + (a + b)) % 65536 ≡ ((x + a) % 65536 + b) % 65536
+added-on x a b = ap (λ (z : ℕ). z % 65536) (sym (add-assoc x a b)) ∙ sym (mod-add-mod (x + a) 65536 b)
+
+shuffled : (y p q b : ℕ) → y + (p + (q + b)) ≡ y + p + q + b
+shuffled y p q b = omega arith
+
+-- what is taken off a sum that holds it
+taken-off : (s b : ℕ) → b < 65536 → (65536 + (s + b) % 65536 - b) % 65536 ≡ s % 65536
+taken-off s b h = omega arith
+
+-- a product that wraps first adds the same
+wraps-in : (y p : ℕ) → (y + p % 65536) % 65536 ≡ (y + p) % 65536
+wraps-in y p = omega arith
+
+-- two bytes at once, the second of them once less
+two-at-once : (y a b t : ℕ) → b < 65536 → 1 ≤ t
+    → (65536 + (y + ((a + b) * t) % 65536) % 65536 - b) % 65536 ≡ ((y + (a * t) % 65536) % 65536 + (b * (t - 1)) % 65536) % 65536
+two-at-once y a b t h k =
+    let p = a * t in
+    let q = b * (t - 1) in
+    let r : t ≡ suc (t - 1) = omega arith in
+    let f : (a + b) * t ≡ p + (q + b) = add-mul a b t ∙ ap (λ (z : ℕ). p + z) (ap (λ (z : ℕ). b * z) r ∙ mul-suc b (t - 1)) in
+    let left : (y + ((a + b) * t) % 65536) % 65536 ≡ (y + p + q + b) % 65536 = wraps-in y ((a + b) * t) ∙ ap (λ (z : ℕ). z % 65536) (ap (λ (z : ℕ). y + z) f ∙ shuffled y p q b) in
+    ap (λ (z : ℕ). (65536 + z - b) % 65536) left ∙ taken-off (y + p + q) b h ∙ sym (wraps-in ((y + p % 65536) % 65536) q ∙ ap (λ (z : ℕ). (z + q) % 65536) (wraps-in y p) ∙ mod-add-mod (y + p) 65536 q)
+
 module _ (l : List ℕ) (n : 508 ≤ length l) (i x y : ℕ) (s : SumsAt (take 508 l) i x y) where
   -- one byte more, as often as there are bytes from it on
   pub sums-more : (t u v w : ℕ) → i < 508 → t ≡ 508 - i → u ≡ (x + getD l i 0) % 65536 → w ≡ (getD l i 0 * t) % 65536 → v ≡ (y + w) % 65536 → SumsAt (take 508 l) (i + 1) u v
@@ -87,6 +119,25 @@ module _ (l : List ℕ) (n : 508 ≤ length l) (i x y : ℕ) (s : SumsAt (take 5
   sums-end h =
       let d : drop i (take 508 l) ≡ [] = drop-of-length-le (take 508 l) {i = i} (rw (length-take-le 508 l n) h) in
       (omega (arith, rw d at (s .is-a), s .small-a), omega (arith, rw d at (s .is-b), s .small-b))
+
+-- a word's two bytes at once
+pub sums-two : (l : List ℕ) → 508 ≤ length l → (i j x y t m high both u v w z : ℕ) → SumsAt (take 508 l) i x y
+    → i ≡ 2 * j → j < 254 → t ≡ 508 - i → getD l i 0 < 256 → getD l (i + 1) 0 < 256
+    → m ≡ word l i → high ≡ m / 256 → both ≡ m % 256 + high
+    → u ≡ (x + both) % 65536 → w ≡ (both * t) % 65536 → z ≡ (y + w) % 65536 → v ≡ (65536 + z - high) % 65536
+    → SumsAt (take 508 l) (2 * (j + 1)) u v
+sums-two l n i j x y t m high both u v w z S ij h p lo hi em eh eb eu ew ez ev =
+    let a = getD l i 0 in
+    let b = getD l (i + 1) 0 in
+    let halves = word-halves l i m lo hi em in
+    let first = sums-more l n i x y S t ((x + a) % 65536) ((y + (a * t) % 65536) % 65536) ((a * t) % 65536) (omega (arith, ij, h)) p refl refl refl in
+    let second = sums-more l n (i + 1) ((x + a) % 65536) ((y + (a * t) % 65536) % 65536) first (t - 1) u v ((b * (t - 1)) % 65536) (omega (arith, ij, h)) (omega (arith, p))
+    (eu ∙ ap (λ (k : ℕ). (x + k) % 65536) (eb ∙ sum-halves m high a b (halves .0) (eh ∙ halves .1)) ∙ added-on x a b)
+    refl
+    (ev ∙ ap (λ (k : ℕ). (65536 + k - high) % 65536) (ez ∙ ap (λ (k : ℕ). (y + k) % 65536) (ew ∙ ap (λ (k : ℕ). (k * t) % 65536) (eb ∙ sum-halves m high a b (halves .0) (eh ∙ halves .1))))
+    ∙ ap (λ (k : ℕ). (65536 + (y + ((a + b) * t) % 65536) % 65536 - k) % 65536) (eh ∙ halves .1)
+    ∙ two-at-once y a b t (omega (arith, hi)) (omega (arith, p, ij, h))) in
+    subst (λ (k : ℕ). SumsAt (take 508 l) k u v) (omega (arith, ij)) second
 
 -- ---- one changed byte
 

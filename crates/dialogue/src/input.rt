@@ -79,96 +79,93 @@ fn blank(b: u8) -> bool {
     b == 32 || b == 10
 }
 
-// The first byte that is no blank. A text has fewer bytes than the loop has turns.
-fn skip(memory: &mut Memory, from: Talk) -> Seen {
-    let mut talk = from;
-    let mut left: usize = 1099511627776;
-    while 0 < left {
-        let seen = peek(memory, talk);
-        if seen.over || !blank(seen.byte) {
-            return seen;
-        }
-        talk = past(seen.talk);
-        left -= 1;
-    }
-    Seen {
-        byte: 0,
-        over: true,
-        talk,
-    }
-}
-
-// A number with a digit more, or not good: the byte is no digit, or the number would be over 18,446,744,073,709,551,609.
-pub(crate) struct Grown {
+// How far a number has been read. The phase is 0 before its digits and 1 in them; 2 where it is whole, 3 where only blanks were left, and 4 where it is none or is over 18,446,744,073,709,551,609.
+pub(crate) struct Scan {
     pub value: u64,
-    pub good: bool,
+    pub phase: u8,
 }
 
-fn grow(value: u64, b: u8) -> Grown {
+fn with_digit(value: u64, b: u8) -> Scan {
     if 48 <= b {
         if b <= 57 {
             if value <= 1844674407370955160 {
-                return Grown {
+                return Scan {
                     value: 10 * value + ((b - 48) as u64),
-                    good: true,
+                    phase: 1,
                 };
             }
         }
     }
-    Grown {
-        value: 0,
-        good: false,
-    }
+    Scan { value: 0, phase: 4 }
 }
 
-// The digits from here on, up to a blank or the end; a number has fewer than the loop has turns.
-fn digits(memory: &mut Memory, from: Talk) -> Found {
+// Where the number ends, in digits or before them.
+fn ended(scan: Scan, over: bool) -> Scan {
+    if scan.phase == 1 {
+        return Scan {
+            value: scan.value,
+            phase: 2,
+        };
+    }
+    if over {
+        return Scan { value: 0, phase: 3 };
+    }
+    scan
+}
+
+// With the next byte, or the end.
+fn with_next(scan: Scan, over: bool, b: u8) -> Scan {
+    if over || blank(b) {
+        return ended(scan, over);
+    }
+    with_digit(scan.value, b)
+}
+
+// Reads on until the number is done. A text has fewer bytes than the loop has turns.
+fn scan_on(memory: &mut Memory, from: Talk) -> Found {
     let mut talk = from;
-    let mut value: u64 = 0;
+    let mut scan = Scan { value: 0, phase: 0 };
     let mut left: usize = 1099511627776;
     while 0 < left {
         let seen = peek(memory, talk);
-        let here = seen.talk;
-        if seen.over || blank(seen.byte) {
-            return Found {
-                value,
-                over: false,
-                talk: here,
-            };
-        }
-        let with = grow(value, seen.byte);
-        if !with.good {
+        scan = with_next(scan, seen.over, seen.byte);
+        talk = seen.talk;
+        if 2 <= scan.phase {
             break;
         }
-        value = with.value;
-        talk = past(here);
+        talk = past(talk);
         left -= 1;
+    }
+    judge(scan, talk)
+}
+
+// What was found: all but a whole number spoils the talk.
+fn judge(scan: Scan, talk: Talk) -> Found {
+    let phase = scan.phase;
+    if phase == 2 {
+        return Found {
+            value: scan.value,
+            over: false,
+            talk,
+        };
     }
     Found {
         value: 0,
-        over: false,
+        over: phase == 3,
         talk: spoil(talk),
     }
 }
 
 // The next number.
 pub fn number(memory: &mut Memory, talk: Talk) -> Found {
-    if !talk.more {
-        return Found {
-            value: 0,
-            over: false,
-            talk,
-        };
+    if talk.more {
+        return scan_on(memory, talk);
     }
-    let seen = skip(memory, talk);
-    if seen.over {
-        return Found {
-            value: 0,
-            over: true,
-            talk: spoil(seen.talk),
-        };
+    Found {
+        value: 0,
+        over: false,
+        talk,
     }
-    digits(memory, seen.talk)
 }
 
 // A number of at most `most`; another one spoils the talk, as the end does.
@@ -188,7 +185,7 @@ pub fn small(memory: &mut Memory, talk: Talk, most: u64) -> Found
 }
 
 // A table of 16-bit entries into the first places of `out`.
-pub fn words(memory: &mut Memory, talk: Talk, out: &mut [u16]) -> Table
+pub(crate) fn words(memory: &mut Memory, talk: Talk, out: &mut [u16]) -> Table
     ensures { λ r. ⌜ Counts (r .count) (now (out .exit)) ⌝ }
 {
     let head = small(memory, talk, out.len() as u64);
@@ -208,7 +205,7 @@ pub fn words(memory: &mut Memory, talk: Talk, out: &mut [u16]) -> Table
 }
 
 // A table of 32-bit entries into the first places of `out`.
-pub fn longs(memory: &mut Memory, talk: Talk, out: &mut [u32]) -> Table
+pub(crate) fn longs(memory: &mut Memory, talk: Talk, out: &mut [u32]) -> Table
     ensures { λ r. ⌜ Counts (r .count) (now (out .exit)) ⌝ }
 {
     let head = small(memory, talk, out.len() as u64);
@@ -228,7 +225,7 @@ pub fn longs(memory: &mut Memory, talk: Talk, out: &mut [u32]) -> Table
 }
 
 // A table of bytes into the first places of `out`.
-pub fn bytes(memory: &mut Memory, talk: Talk, out: &mut [u8]) -> Table
+pub(crate) fn bytes(memory: &mut Memory, talk: Talk, out: &mut [u8]) -> Table
     ensures { λ r. ⌜ Counts (r .count) (now (out .exit)) ⌝ }
 {
     let head = small(memory, talk, out.len() as u64);

@@ -1,16 +1,14 @@
 // A dialogue over standard input and standard output: decimal numbers and tables of them are read, lines of numbers are written. It is for programs that show what calls answer.
 //
-// One lent memory holds what was read and what is still to be written; a Talk says how far both are. Once something can't be read the talk is spoiled: from then on nothing is read, every number and every table reads as empty, and no line is put. So a caller reads all that it needs in a row and looks at the end whether all of it was there.
+// One lent memory holds what was read and what is still to be written; a Talk says how far both are. Once something can't be read the talk is spoiled: from then on nothing is read, every number reads as 0 and every table as empty, and no line is put. So a caller reads all that it needs in a row and looks at the end whether all of it was there.
 mod input;
 mod output;
+mod tables;
 
 pub use input::Found;
 pub use input::Table;
-pub use input::bytes;
-pub use input::longs;
 pub use input::number;
 pub use input::small;
-pub use input::words;
 pub use output::Line;
 pub use output::flush;
 pub use output::put_bytes;
@@ -18,6 +16,11 @@ pub use output::put_line;
 pub use output::put_longs;
 pub use output::put_text;
 pub use output::put_words;
+pub use tables::Tables;
+pub use tables::byte_tables;
+pub use tables::history;
+pub use tables::image;
+pub use tables::tree;
 
 // The first 65,536 bytes are what was read last, the other 4,096 what is to be written.
 pub type Memory = [u8; 69632];

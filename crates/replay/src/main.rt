@@ -1,6 +1,4 @@
 // Reads requests from standard input, makes the calls, and prints what they answer and leave. docs/REPLAY.md is its manual.
-mod calls;
-mod lines;
 mod stored;
 
 use dialogue::Memory;
@@ -19,7 +17,7 @@ fn with_history(
     labels: &mut [u16],
 ) -> Talk {
     if code == 3 {
-        return calls::history(
+        return answers::history(
             memory,
             talk,
             species_parents,
@@ -31,7 +29,7 @@ fn with_history(
         );
     }
     if code == 4 {
-        return calls::offer(
+        return answers::offer(
             memory,
             talk,
             species_parents,
@@ -66,14 +64,13 @@ fn history_tables(
 ) -> Talk {
     let mut places = [0u16; 2100];
     let mut labels = [0u16; 2100];
-    let first = dialogue::words(memory, talk, &mut places);
-    let second = dialogue::words(memory, first.talk, &mut labels);
-    let m = first.count;
-    let n = second.count;
+    let tables = dialogue::history(memory, talk, &mut places, &mut labels);
+    let m = tables.first;
+    let n = tables.second;
     with_history(
         code,
         memory,
-        second.talk,
+        tables.talk,
         species_parents,
         species_taxa,
         gene_parents,
@@ -94,7 +91,7 @@ fn with_trees(
     gene_taxa: &[u32],
 ) -> Talk {
     if code == 2 {
-        return calls::genes(
+        return answers::genes(
             memory,
             talk,
             species_parents,
@@ -104,7 +101,7 @@ fn with_trees(
         );
     }
     if code == 5 {
-        return calls::date(
+        return answers::date(
             memory,
             talk,
             species_parents,
@@ -134,14 +131,13 @@ fn gene_tables(
 ) -> Talk {
     let mut parents = [0u16; 2100];
     let mut taxa = [0u32; 2100];
-    let first = dialogue::words(memory, talk, &mut parents);
-    let second = dialogue::longs(memory, first.talk, &mut taxa);
-    let m = first.count;
-    let n = second.count;
+    let tables = dialogue::tree(memory, talk, &mut parents, &mut taxa);
+    let m = tables.first;
+    let n = tables.second;
     with_trees(
         code,
         memory,
-        second.talk,
+        tables.talk,
         species_parents,
         species_taxa,
         &parents[..m],
@@ -158,7 +154,7 @@ fn with_species(
     species_taxa: &[u32],
 ) -> Talk {
     if code == 1 {
-        return calls::species(memory, talk, species_parents, species_taxa);
+        return answers::species(memory, talk, species_parents, species_taxa);
     }
     if code == 7 {
         return stored::loaded(memory, talk, species_parents, species_taxa);
@@ -170,11 +166,10 @@ fn with_species(
 fn species_tables(code: u64, memory: &mut Memory, talk: Talk) -> Talk {
     let mut parents = [0u16; 2100];
     let mut taxa = [0u32; 2100];
-    let first = dialogue::words(memory, talk, &mut parents);
-    let second = dialogue::longs(memory, first.talk, &mut taxa);
-    let m = first.count;
-    let n = second.count;
-    with_species(code, memory, second.talk, &parents[..m], &taxa[..n])
+    let tables = dialogue::tree(memory, talk, &mut parents, &mut taxa);
+    let m = tables.first;
+    let n = tables.second;
+    with_species(code, memory, tables.talk, &parents[..m], &taxa[..n])
 }
 
 // One request, behind its code.

@@ -1,11 +1,20 @@
 // The requests about images, 6 to 8: writing, loading, and what the C collector asks. Of a spoiled talk nothing is put.
-use crate::calls;
-use crate::lines;
+use answers::fine;
+use answers::of_refusal;
 use dialogue::Line;
 use dialogue::Memory;
 use dialogue::Talk;
 use images::load;
+use images::load::Loaded;
 use images::write;
+use images::write::Written;
+
+fn of_written(answer: Written) -> Line {
+    match answer {
+        Written::Bytes(n) => fine(1, [n as u64, 0, 0, 0, 0]),
+        Written::Refused(r) => of_refusal(r),
+    }
+}
 
 fn write_into(
     memory: &mut Memory,
@@ -27,7 +36,7 @@ fn write_into(
         labels,
         image,
     );
-    let then = dialogue::put_line(memory, talk, lines::of_written(answer));
+    let then = dialogue::put_line(memory, talk, of_written(answer));
     dialogue::put_bytes(memory, then, image)
 }
 
@@ -43,7 +52,7 @@ pub(crate) fn written(
     labels: &[u16],
 ) -> Talk {
     let mut image = [0u8; 37888];
-    let table = dialogue::bytes(memory, talk, &mut image);
+    let table = dialogue::image(memory, talk, &mut image);
     let n = table.count;
     write_into(
         memory,
@@ -58,40 +67,35 @@ pub(crate) fn written(
     )
 }
 
-fn load_line(
-    species_parents: &[u16],
-    species_taxa: &[u32],
-    image: &[u8],
-    gene_parents: &mut [u16],
-    gene_taxa: &mut [u32],
-    places: &mut [u16],
-    labels: &mut [u16],
-) -> Line {
-    let answer = load::load_image(
-        species_parents,
-        species_taxa,
-        image,
-        gene_parents,
-        gene_taxa,
-        places,
-        labels,
-    );
-    lines::of_loaded(answer)
+fn of_loaded(answer: Loaded) -> Line {
+    match answer {
+        Loaded::Family(c) => fine(
+            4,
+            [
+                c.species as u64,
+                c.genes as u64,
+                c.duplications as u64,
+                c.losses as u64,
+                0,
+            ],
+        ),
+        Loaded::Refused(r) => of_refusal(r),
+    }
 }
 
 fn put_loaded(
     memory: &mut Memory,
     talk: Talk,
-    line: Line,
+    answer: Loaded,
     gene_parents: &[u16],
     gene_taxa: &[u32],
     places: &[u16],
     labels: &[u16],
 ) -> Talk {
-    let a = dialogue::put_line(memory, talk, line);
+    let a = dialogue::put_line(memory, talk, of_loaded(answer));
     let b = dialogue::put_words(memory, a, gene_parents);
     let c = dialogue::put_longs(memory, b, gene_taxa);
-    calls::put_history(memory, c, places, labels)
+    answers::put_history(memory, c, places, labels)
 }
 
 fn load_into(
@@ -105,7 +109,7 @@ fn load_into(
     places: &mut [u16],
     labels: &mut [u16],
 ) -> Talk {
-    let line = load_line(
+    let answer = load::load_image(
         species_parents,
         species_taxa,
         image,
@@ -114,7 +118,15 @@ fn load_into(
         places,
         labels,
     );
-    put_loaded(memory, talk, line, gene_parents, gene_taxa, places, labels)
+    put_loaded(
+        memory,
+        talk,
+        answer,
+        gene_parents,
+        gene_taxa,
+        places,
+        labels,
+    )
 }
 
 // The history tables of code 7, once the gene tables have been read.
@@ -129,13 +141,12 @@ fn load_history(
 ) -> Talk {
     let mut places = [0u16; 2100];
     let mut labels = [0u16; 2100];
-    let first = dialogue::words(memory, talk, &mut places);
-    let second = dialogue::words(memory, first.talk, &mut labels);
-    let m = first.count;
-    let n = second.count;
+    let tables = dialogue::history(memory, talk, &mut places, &mut labels);
+    let m = tables.first;
+    let n = tables.second;
     load_into(
         memory,
-        second.talk,
+        tables.talk,
         species_parents,
         species_taxa,
         image,
@@ -156,13 +167,12 @@ fn load_genes(
 ) -> Talk {
     let mut parents = [0u16; 2100];
     let mut taxa = [0u32; 2100];
-    let first = dialogue::words(memory, talk, &mut parents);
-    let second = dialogue::longs(memory, first.talk, &mut taxa);
-    let m = first.count;
-    let n = second.count;
+    let tables = dialogue::tree(memory, talk, &mut parents, &mut taxa);
+    let m = tables.first;
+    let n = tables.second;
     load_history(
         memory,
-        second.talk,
+        tables.talk,
         species_parents,
         species_taxa,
         image,
@@ -179,7 +189,7 @@ pub(crate) fn loaded(
     species_taxa: &[u32],
 ) -> Talk {
     let mut image = [0u8; 37888];
-    let table = dialogue::bytes(memory, talk, &mut image);
+    let table = dialogue::image(memory, talk, &mut image);
     let n = table.count;
     load_genes(
         memory,
@@ -194,25 +204,24 @@ fn host_line(image: &[u8], parents: &[u8], taxa: &[u8]) -> Line {
     let refusal = collector::panheron_refusal(image, parents, taxa) as u64;
     let duplications = collector::panheron_duplications(image, parents, taxa) as u64;
     let losses = collector::panheron_losses(image, parents, taxa) as u64;
-    lines::fine(3, [refusal, duplications, losses, 0, 0])
+    fine(3, [refusal, duplications, losses, 0, 0])
 }
 
 // The two tables of code 8, once the image has been read.
 fn host_tables(memory: &mut Memory, talk: Talk, image: &[u8]) -> Talk {
     let mut parents = [0u8; 8400];
     let mut taxa = [0u8; 8400];
-    let first = dialogue::bytes(memory, talk, &mut parents);
-    let second = dialogue::bytes(memory, first.talk, &mut taxa);
-    let m = first.count;
-    let n = second.count;
+    let tables = dialogue::byte_tables(memory, talk, &mut parents, &mut taxa);
+    let m = tables.first;
+    let n = tables.second;
     let line = host_line(image, &parents[..m], &taxa[..n]);
-    dialogue::put_line(memory, second.talk, line)
+    dialogue::put_line(memory, tables.talk, line)
 }
 
 // Code 8.
 pub(crate) fn host(memory: &mut Memory, talk: Talk) -> Talk {
     let mut image = [0u8; 37888];
-    let table = dialogue::bytes(memory, talk, &mut image);
+    let table = dialogue::image(memory, talk, &mut image);
     let n = table.count;
     host_tables(memory, table.talk, &image[..n])
 }

@@ -1,4 +1,4 @@
--- `weighed` meets its contract: a byte times a word is below 2 to the 24th. Assumes nothing.
+-- `weighed` meets its contract: a word times a word is below 2 to the 32nd. Assumes nothing.
 use Prim.Native.Nat.{_≤_}
 use native.Mathlib.Omega.{arith}
 use native.Mathlib.Nat.{mul-le-mul}
@@ -8,7 +8,7 @@ use Rattle.blocks.proofs.check.weighed.Tie as tie
 
 mul-result : tie.Need-mul-result
 mul-result c =
-    let a : c .args .byte ≤ 255 = omega arith in
+    let a : c .args .n ≤ 65535 = omega arith in
     let b : c .args .times ≤ 65535 = omega arith in
     record { fits = omega (arith, mul-le-mul a b) }
 

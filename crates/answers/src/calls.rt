@@ -1,18 +1,18 @@
 // The requests over the trees, 1 to 5: each reads what its call still needs, makes the call, and puts the answer and the lent tables. Of a spoiled talk nothing is put.
 use crate::lines;
-use dialogue::Line;
 use dialogue::Memory;
 use dialogue::Talk;
+use least::LeastAnswer;
 use trees::GeneNode;
 
 // Code 1.
-pub(crate) fn species(memory: &mut Memory, talk: Talk, parents: &[u16], taxa: &[u32]) -> Talk {
+pub fn species(memory: &mut Memory, talk: Talk, parents: &[u16], taxa: &[u32]) -> Talk {
     let answer = judges::judge_species(parents, taxa);
     dialogue::put_line(memory, talk, lines::of_judged(answer))
 }
 
 // Code 2.
-pub(crate) fn genes(
+pub fn genes(
     memory: &mut Memory,
     talk: Talk,
     species_parents: &[u16],
@@ -25,7 +25,7 @@ pub(crate) fn genes(
 }
 
 // A history's two tables.
-pub(crate) fn put_history(memory: &mut Memory, talk: Talk, places: &[u16], labels: &[u16]) -> Talk {
+pub fn put_history(memory: &mut Memory, talk: Talk, places: &[u16], labels: &[u16]) -> Talk {
     let then = dialogue::put_words(memory, talk, places);
     dialogue::put_words(memory, then, labels)
 }
@@ -48,36 +48,19 @@ fn weights(memory: &mut Memory, talk: Talk) -> TwoWeights {
     }
 }
 
-fn least_line(
-    species_parents: &[u16],
-    species_taxa: &[u32],
-    gene_parents: &[u16],
-    gene_taxa: &[u32],
-    places: &mut [u16],
-    labels: &mut [u16],
-    dw: u16,
-    lw: u16,
-) -> Line {
-    let answer = least::least_history(
-        species_parents,
-        species_taxa,
-        gene_parents,
-        gene_taxa,
-        places,
-        labels,
-        dw,
-        lw,
-    );
-    lines::of_least(answer)
-}
-
-fn put_least(memory: &mut Memory, talk: Talk, line: Line, places: &[u16], labels: &[u16]) -> Talk {
-    let then = dialogue::put_line(memory, talk, line);
+fn put_least(
+    memory: &mut Memory,
+    talk: Talk,
+    answer: LeastAnswer,
+    places: &[u16],
+    labels: &[u16],
+) -> Talk {
+    let then = dialogue::put_line(memory, talk, lines::of_least(answer));
     put_history(memory, then, places, labels)
 }
 
 // Code 3.
-pub(crate) fn history(
+pub fn history(
     memory: &mut Memory,
     talk: Talk,
     species_parents: &[u16],
@@ -88,7 +71,7 @@ pub(crate) fn history(
     labels: &mut [u16],
 ) -> Talk {
     let both = weights(memory, talk);
-    let line = least_line(
+    let answer = least::least_history(
         species_parents,
         species_taxa,
         gene_parents,
@@ -98,11 +81,11 @@ pub(crate) fn history(
         both.dw,
         both.lw,
     );
-    put_least(memory, both.talk, line, places, labels)
+    put_least(memory, both.talk, answer, places, labels)
 }
 
 // Code 4.
-pub(crate) fn offer(
+pub fn offer(
     memory: &mut Memory,
     talk: Talk,
     species_parents: &[u16],
@@ -124,7 +107,7 @@ pub(crate) fn offer(
 }
 
 // Code 5.
-pub(crate) fn date(
+pub fn date(
     memory: &mut Memory,
     talk: Talk,
     species_parents: &[u16],

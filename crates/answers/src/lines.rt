@@ -1,7 +1,5 @@
-// What each call's answer reads as: `refused` and the refusal's three numbers, or `ok` and the answer's.
+// What an answer reads as: `refused` and the refusal's three numbers, or `ok` and the answer's.
 use dialogue::Line;
-use images::load::Loaded;
-use images::write::Written;
 use judges::Judged;
 use least::Dating;
 use least::DatingAnswer;
@@ -9,7 +7,7 @@ use least::LeastAnswer;
 use offers::Offered;
 use trees::Refusal;
 
-pub(crate) fn of_refusal(r: Refusal) -> Line {
+pub fn of_refusal(r: Refusal) -> Line {
     Line {
         refused: true,
         count: 3,
@@ -18,7 +16,7 @@ pub(crate) fn of_refusal(r: Refusal) -> Line {
 }
 
 // `ok` and the first `count` numbers.
-pub(crate) fn fine(count: usize, numbers: [u64; 5]) -> Line {
+pub fn fine(count: usize, numbers: [u64; 5]) -> Line {
     Line {
         refused: false,
         count,
@@ -77,28 +75,5 @@ pub(crate) fn of_dating(answer: DatingAnswer) -> Line {
     match answer {
         DatingAnswer::Dated(d) => of_bounds(d),
         DatingAnswer::Refused(r) => of_refusal(r),
-    }
-}
-
-pub(crate) fn of_written(answer: Written) -> Line {
-    match answer {
-        Written::Bytes(n) => fine(1, [n as u64, 0, 0, 0, 0]),
-        Written::Refused(r) => of_refusal(r),
-    }
-}
-
-pub(crate) fn of_loaded(answer: Loaded) -> Line {
-    match answer {
-        Loaded::Family(c) => fine(
-            4,
-            [
-                c.species as u64,
-                c.genes as u64,
-                c.duplications as u64,
-                c.losses as u64,
-                0,
-            ],
-        ),
-        Loaded::Refused(r) => of_refusal(r),
     }
 }
