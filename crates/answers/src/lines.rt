@@ -1,4 +1,7 @@
 // What an answer reads as: `refused` and the refusal's three numbers, or `ok` and the answer's.
+ghost use mathlib.Core.Path.{_≡_};
+ghost use mathlib.Core.Bool.{true, false};
+ghost use mathlib.Core.List.{[], _∷_};
 use dialogue::Line;
 use judges::Judged;
 use least::Dating;
@@ -7,7 +10,9 @@ use least::LeastAnswer;
 use offers::Offered;
 use trees::Refusal;
 
-pub fn of_refusal(r: Refusal) -> Line {
+pub fn of_refusal(r: Refusal) -> Line
+    ensures { λ l. ⌜ l ≡ record { refused = true; count = 3; numbers = r .number ∷ r .tree ∷ r .place ∷ 0 ∷ 0 ∷ [] } ⌝ }
+{
     Line {
         refused: true,
         count: 3,
@@ -16,7 +21,9 @@ pub fn of_refusal(r: Refusal) -> Line {
 }
 
 // `ok` and the first `count` numbers.
-pub fn fine(count: usize, numbers: [u64; 5]) -> Line {
+pub fn fine(count: usize, numbers: [u64; 5]) -> Line
+    ensures { λ l. ⌜ l ≡ record { refused = false; count = count; numbers = numbers } ⌝ }
+{
     Line {
         refused: false,
         count,

@@ -5,6 +5,8 @@ mod input;
 mod output;
 mod tables;
 
+ghost use mathlib.Core.Path.{_≡_};
+ghost use mathlib.Core.Bool.{true, false};
 pub use input::Found;
 pub use input::Table;
 pub use input::number;
@@ -34,7 +36,9 @@ pub struct Talk {
 }
 
 // Nothing read and nothing to be written.
-pub fn begin() -> Talk {
+pub fn begin() -> Talk
+    ensures { λ r. ⌜ r ≡ record { at = 0; end = 0; used = 0; more = true } ⌝ }
+{
     Talk {
         at: 0,
         end: 0,
@@ -44,7 +48,9 @@ pub fn begin() -> Talk {
 }
 
 // The talk, spoiled.
-pub fn spoil(talk: Talk) -> Talk {
+pub fn spoil(talk: Talk) -> Talk
+    ensures { λ r. ⌜ r ≡ record { at = talk .at; end = talk .end; used = talk .used; more = false } ⌝ }
+{
     Talk {
         at: talk.at,
         end: talk.end,
@@ -54,7 +60,9 @@ pub fn spoil(talk: Talk) -> Talk {
 }
 
 // The talk with `used` bytes to be written.
-pub(crate) fn holding(talk: Talk, used: usize) -> Talk {
+pub(crate) fn holding(talk: Talk, used: usize) -> Talk
+    ensures { λ r. ⌜ r ≡ record { at = talk .at; end = talk .end; used = used; more = talk .more } ⌝ }
+{
     Talk {
         at: talk.at,
         end: talk.end,
