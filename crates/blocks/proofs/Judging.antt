@@ -7,8 +7,8 @@ use mathlib.Core.List.{List}
 use lib.ListN.{length}
 use lib.Dec.{eqb, leb}
 use borrow.Author.Tests.{eq-eqb, ne-eqb, le-leb, lt-leb}
-use Rattle.trees.specs.Lists.{lowest}
-use Rattle.trees.specs.Rulings.{accepted, refused, pick, ruling}
+use Rattle.trees.specs.Lists.{lowest, pick}
+use Rattle.trees.specs.Rulings.{accepted, refused, ruling}
 use Rattle.blocks.specs.Blocks.{part, checked, numbered, count}
 use Rattle.blocks.specs.Image.{sized, blockRules}
 

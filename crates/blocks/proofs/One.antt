@@ -1,11 +1,11 @@
 -- One answer only: any two results that meet a contract of this crate are equal. Assumes nothing.
 use Prim.Native.Nat.{ℕ}
-use native.Mathlib.Omega.{arith}
 use mathlib.Core.Path.{_≡_, ap}
 use mathlib.Core.Bool.{Bool}
 use mathlib.Core.List.{List}
 use Rattle.trees.specs.One.{Single}
 use Rattle.trees.specs.Rulings.{ruling}
+use Rattle.trees.proofs.Bools.{clash}
 use Rattle.trees.proofs.One.{single-value, single-view}
 use Rattle.trees.proofs.Rulings.{refusal-one}
 use Rattle.blocks.specs.Blocks.{word, stored, checked, blocks, count, content}
@@ -16,8 +16,8 @@ use Rattle.blocks.specs.declared.judge.Framed.the-variants.{Blocks, Refu
 
 pub framed-one : (a b : Framed) → framedOf a ≡ framedOf b → a ≡ b
 framed-one (Blocks n) (Blocks m) e = let f : n ≡ m = cc in ap Blocks f
-framed-one (Blocks n) (Refused s) e = let z : _≡_ {A = ℕ} 0 1 = cc in absurd (omega arith)
-framed-one (Refused r) (Blocks m) e = let z : _≡_ {A = ℕ} 0 1 = cc in absurd (omega arith)
+framed-one (Blocks n) (Refused s) e = clash (cc)
+framed-one (Refused r) (Blocks m) e = clash (cc)
 framed-one (Refused r) (Refused s) e = ap Refused (refusal-one r s e)
 
 -- ---- one theorem for each public function

@@ -7,7 +7,8 @@ use mathlib.Core.List.{List}
 use lib.ListN.{length}
 use lib.Dec.{eqb, eqb→eq}
 use borrow.Author.Tests.{lt-leb, le-leb, eq-eqb, ne-eqb}
-use Rattle.trees.specs.Rulings.{Ruling, accepted, refused, whole, pick, numberOf, treeOf, Fine, verdict}
+use Rattle.trees.specs.Lists.{pick}
+use Rattle.trees.specs.Rulings.{Ruling, accepted, refused, whole, numberOf, treeOf, Fine, verdict}
 use Rattle.trees.specs.Rules.{sized, speciesRules}
 use Rattle.trees.proofs.Bools.{and-left, and-right, true-T}
 use Rattle.trees.proofs.Rulings.{ruling-fail}

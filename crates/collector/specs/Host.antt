@@ -11,7 +11,8 @@ use mathlib.Core.Bool.{Bool, _&&_}
 use mathlib.Core.List.{List}
 use lib.ListN.{length, replicate}
 use lib.Dec.{eqb}
-use Rattle.trees.specs.Rulings.{Ruling, accepted, refused, pick}
+use Rattle.trees.specs.Lists.{pick}
+use Rattle.trees.specs.Rulings.{Ruling, accepted, refused}
 use Rattle.blocks.specs.Halves.{wordsOf, longsOf}
 use Rattle.families.specs.Loading.{Lent, Contents, load}
 

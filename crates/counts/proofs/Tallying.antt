@@ -7,8 +7,7 @@ use mathlib.Core.List.{List}
 use lib.ListN.{length, getD}
 use lib.Dec.{eqb, ltb}
 use borrow.Author.Tests.{lt-ltb, le-ltb}
-use Rattle.trees.specs.Lists.{one}
-use Rattle.trees.specs.Rulings.{pick}
+use Rattle.trees.specs.Lists.{one, pick}
 use Rattle.trees.specs.Trees.{up, nodes}
 use Rattle.trees.specs.Tables.{Pair}
 use Rattle.trees.proofs.Lists.{only, total-cong, total-more, total-part, range-has}

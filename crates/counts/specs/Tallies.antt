@@ -12,8 +12,7 @@ use mathlib.Core.Path.{_≡_}
 use mathlib.Core.List.{List}
 use lib.ListN.{length, getD}
 use lib.Dec.{eqb, ltb}
-use Rattle.trees.specs.Lists.{range, total, one}
-use Rattle.trees.specs.Rulings.{pick}
+use Rattle.trees.specs.Lists.{range, total, one, pick}
 use Rattle.trees.specs.Trees.{depth}
 use Rattle.trees.specs.Tables.{Pair}
 use Rattle.trees.specs.Sound.{Sound}

@@ -3,7 +3,6 @@
 --   familyImage f     == the image of a family
 --   writeRules ..     == "writing 7, 8-11, 12", after the trees'
 --   Writing           == what a call answers, the number of bytes or a refusal, and what it leaves in the lent buffer
---   bufferAfter r new old == new in the first places of old if accepted; old if refused (01, "A refusal leaves lent memory .. unchanged")
 --   write ..          == the outcome of a call
 -- Assumes nothing.
 use Prim.Native.Nat.{ℕ}
@@ -11,8 +10,8 @@ use mathlib.Core.List.{List, [], _∷_, _++_}
 use lib.ListN.{length, take}
 use lib.Dec.{leb}
 use Rattle.trees.specs.Tables.{Pair}
-use Rattle.trees.specs.Lent.{replaced}
-use Rattle.trees.specs.Rulings.{Ruling, accepted, refused, Rule, whole, ruling}
+use Rattle.trees.specs.Lent.{onAccepted}
+use Rattle.trees.specs.Rulings.{Ruling, Rule, whole, ruling}
 use Rattle.histories.specs.Rules.{offerRules}
 use Rattle.blocks.specs.Image.{imageOf}
 use Rattle.families.specs.Families.{Family, familyWords}
@@ -39,12 +38,8 @@ pub record Writing : Type 0 where
   pub answer : Ruling ℕ
   pub image : List ℕ
 
-abbrev pub bufferAfter : {A : Type 0} → Ruling A → List ℕ → List ℕ → List ℕ
-bufferAfter (accepted a) new old = replaced new old
-bufferAfter (refused n t v) new old = old
-
 unfoldable pub write : Pair → List ℕ → List ℕ → List ℕ → Writing
 write w places labels image =
     let bytes = familyImage (storedFamily w places labels) in
     let answer = ruling (writeRules w places labels image) (length bytes) in
-    record { answer = answer; image = bufferAfter answer bytes image }
+    record { answer = answer; image = onAccepted answer bytes image }

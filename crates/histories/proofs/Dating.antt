@@ -8,11 +8,10 @@ use mathlib.Core.Bool.{Bool}
 use lib.ListN.{length}
 use lib.Dec.{eqb, eqb→eq}
 use borrow.Author.Tests.{ne-eqb, lt-ltb, le-ltb}
-use Rattle.trees.specs.Lists.{any}
+use Rattle.trees.specs.Lists.{any, pick}
 use Rattle.trees.specs.Trees.{none, up, line, Below, here, step}
 use Rattle.trees.specs.Tables.{Pair}
 use Rattle.trees.specs.Sound.{Sound}
-use Rattle.trees.specs.Rulings.{pick}
 use Rattle.trees.proofs.Bools.{test, true-T}
 use Rattle.trees.proofs.Lists.{first-none, first-has, any-has, has-any}
 use Rattle.trees.proofs.Lines.{top-node, antisym, on-line, off-line}

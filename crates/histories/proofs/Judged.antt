@@ -9,7 +9,8 @@ use lib.Dec.{T, eqb, ltb, eqb→eq, eqb-refl, ltb→lt, lt→ltb}
 use Rattle.trees.specs.Trees.{up, Below, kid, Leaf, Inner, isLeaf}
 use Rattle.trees.specs.Tables.{Pair, home}
 use Rattle.trees.specs.Sound.{Sound}
-use Rattle.trees.specs.Rulings.{Rule, pick, Passes, Every, done, and}
+use Rattle.trees.specs.Lists.{pick}
+use Rattle.trees.specs.Rulings.{Rule, Passes, Every, done, and}
 use Rattle.trees.proofs.Bools.{and-both, and-left, and-right, or-left, or-right, or-cases, T-true}
 use Rattle.trees.proofs.Sound.{trees, leaf-is, is-leaf, not-leaf}
 use Rattle.histories.specs.Places.{below}

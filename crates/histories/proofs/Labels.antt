@@ -7,10 +7,9 @@ use mathlib.Core.Logic.{_⊎_, inl, inr, _≢_, _↔_}
 use mathlib.Core.Bool.{_||_, or-false}
 use lib.Dec.{eqb}
 use borrow.Author.Tests.{eq-eqb, ne-eqb}
-use Rattle.trees.specs.Lists.{any}
+use Rattle.trees.specs.Lists.{any, pick}
 use Rattle.trees.specs.Trees.{kid, Leaf, Inner, isLeaf}
 use Rattle.trees.specs.Tables.{Pair}
-use Rattle.trees.specs.Rulings.{pick}
 use Rattle.trees.proofs.Bools.{test, T-true}
 use Rattle.trees.proofs.Kids.{kids-two}
 use Rattle.trees.proofs.Sound.{is-leaf, not-leaf}

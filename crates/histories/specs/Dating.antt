@@ -10,10 +10,9 @@ use mathlib.Core.Path.{_≡_}
 use mathlib.Core.Logic.{_≢_}
 use lib.ListN.{length}
 use lib.Dec.{eqb, ltb}
-use Rattle.trees.specs.Lists.{first}
+use Rattle.trees.specs.Lists.{first, pick}
 use Rattle.trees.specs.Trees.{none, up, line, Below}
 use Rattle.trees.specs.Tables.{Pair}
-use Rattle.trees.specs.Rulings.{pick}
 use Rattle.histories.specs.Places.{place}
 use Rattle.histories.specs.Histories.{label}
 

@@ -23,10 +23,9 @@ use mathlib.Core.Bool.{Bool, true}
 use mathlib.Core.List.{List, map}
 use lib.ListN.{length, getD}
 use lib.Dec.{eqb}
-use Rattle.trees.specs.Lists.{any, total, one}
+use Rattle.trees.specs.Lists.{any, total, one, pick}
 use Rattle.trees.specs.Trees.{nodes, kids, isLeaf, depth}
 use Rattle.trees.specs.Tables.{Pair}
-use Rattle.trees.specs.Rulings.{pick}
 use Rattle.histories.specs.Places.{place}
 
 -- "a place and a label for each gene node"

@@ -16,7 +16,8 @@ use lib.ListN.{length}
 use lib.Dec.{eqb, ltb, leb}
 use Rattle.trees.specs.Trees.{up, kid, isLeaf}
 use Rattle.trees.specs.Tables.{Pair, home}
-use Rattle.trees.specs.Rulings.{Ruling, Rule, whole, each, pick, ruling}
+use Rattle.trees.specs.Lists.{pick}
+use Rattle.trees.specs.Rulings.{Ruling, Rule, whole, each, ruling}
 use Rattle.trees.specs.Rules.{pairRules}
 use Rattle.histories.specs.Places.{below}
 use Rattle.histories.specs.Histories.{History, told, least, everyNode, duplications, speciations, cost, lossesIn, climbsIn}

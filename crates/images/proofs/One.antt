@@ -1,11 +1,11 @@
 -- One answer only: any two results that meet a contract of this crate are equal. Assumes nothing.
 use Prim.Native.Nat.{ℕ}
-use native.Mathlib.Omega.{arith}
 use mathlib.Core.Path.{_≡_, sym, ap, _∙_}
 use mathlib.Core.List.{List}
 use Rattle.trees.specs.One.{Single}
 use Rattle.trees.specs.Rulings.{verdict}
 use Rattle.trees.specs.Tables.{Pair}
+use Rattle.trees.proofs.Bools.{clash}
 use Rattle.trees.proofs.One.{single-view, both}
 use Rattle.trees.proofs.Rulings.{refusal-one}
 use Rattle.judges.specs.Answers.{judgedOf}
@@ -23,8 +23,8 @@ use Rattle.images.specs.declared.load.Loaded.the-variants as loaded
 
 written-one : (a b : Written) → writtenOf a ≡ writtenOf b → a ≡ b
 written-one (written.Bytes n) (written.Bytes m) e = let q : n ≡ m = cc in ap written.Bytes q
-written-one (written.Bytes n) (written.Refused s) e = let z : _≡_ {A = ℕ} 0 1 = cc in absurd (omega arith)
-written-one (written.Refused r) (written.Bytes m) e = let z : _≡_ {A = ℕ} 0 1 = cc in absurd (omega arith)
+written-one (written.Bytes n) (written.Refused s) e = clash (cc)
+written-one (written.Refused r) (written.Bytes m) e = clash (cc)
 written-one (written.Refused r) (written.Refused s) e = ap written.Refused (refusal-one r s e)
 
 stored-one : (a b : Stored) → storedOf a ≡ storedOf b → a ≡ b
@@ -32,8 +32,8 @@ stored-one a b e = ap (λ (c : Contents). record { species = c .species; genes =
 
 loaded-one : (a b : Loaded) → loadedOf a ≡ loadedOf b → a ≡ b
 loaded-one (loaded.Family a) (loaded.Family b) e = let q : storedOf a ≡ storedOf b = cc in ap loaded.Family (stored-one a b q)
-loaded-one (loaded.Family a) (loaded.Refused s) e = let z : _≡_ {A = ℕ} 0 1 = cc in absurd (omega arith)
-loaded-one (loaded.Refused r) (loaded.Family b) e = let z : _≡_ {A = ℕ} 0 1 = cc in absurd (omega arith)
+loaded-one (loaded.Family a) (loaded.Refused s) e = clash (cc)
+loaded-one (loaded.Refused r) (loaded.Family b) e = clash (cc)
 loaded-one (loaded.Refused r) (loaded.Refused s) e = ap loaded.Refused (refusal-one r s e)
 
 -- ---- one theorem for each public function

@@ -8,9 +8,8 @@ use lib.ListN.{length, getD, set, length-set, getD-replicate}
 use lib.Seq.{getD-set-same, getD-set-other}
 use lib.Dec.{eqb, T, lt→ltb}
 use borrow.Author.Tests.{eq-eqb, ne-eqb}
-use Rattle.trees.specs.Lists.{range, keepIf, one}
+use Rattle.trees.specs.Lists.{range, keepIf, one, pick}
 use Rattle.trees.specs.Trees.{none, up, nodes, kids}
-use Rattle.trees.specs.Rulings.{pick}
 use Rattle.trees.specs.Rules.{ordered}
 use Rattle.trees.proofs.Lists.{keep-more}
 use Rattle.trees.proofs.Lines.{up-at}

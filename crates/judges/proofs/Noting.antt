@@ -7,8 +7,7 @@ use mathlib.Core.Bool.{Bool, true, false, not}
 use lib.Dec.{T, eqb}
 use borrow.Author.Count.{below-more}
 use borrow.Author.Tests.{ne-eqb}
-use Rattle.trees.specs.Lists.{one}
-use Rattle.trees.specs.Rulings.{pick}
+use Rattle.trees.specs.Lists.{one, pick}
 
 -- nothing noted yet after one more: it is right, and nothing was noted before
 pub noted-right : (b : Bool) (w : ℕ) → pick b w 1 ≡ 0 → T b

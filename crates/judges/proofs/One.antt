@@ -1,6 +1,5 @@
 -- One answer only: any two results that meet a contract of this crate are equal. Assumes nothing.
 use Prim.Native.Nat.{ℕ}
-use native.Mathlib.Omega.{arith}
 use mathlib.Core.Path.{_≡_, refl, ap}
 use mathlib.Core.List.{List}
 use Rattle.trees.specs.One.{Single}
@@ -8,6 +7,7 @@ use Rattle.trees.specs.Rulings.{verdict}
 use Rattle.trees.specs.Rules.{speciesRules, familyRules, pairRules}
 use Rattle.trees.specs.Tables.{Pair}
 use Rattle.trees.specs.declared.SpeciesNode.{SpeciesNode}
+use Rattle.trees.proofs.Bools.{clash}
 use Rattle.trees.proofs.One.{single-view}
 use Rattle.trees.proofs.Rulings.{refusal-one}
 use Rattle.judges.specs.Answers.{judgedOf}
@@ -17,8 +17,8 @@ use Rattle.judges.specs.declared.Judged.the-variants.{Sound, Refused}
 
 pub judged-one : (a b : Judged) → judgedOf a ≡ judgedOf b → a ≡ b
 judged-one Sound Sound e = refl
-judged-one Sound (Refused s) e = let z : _≡_ {A = ℕ} 0 1 = cc in absurd (omega arith)
-judged-one (Refused r) Sound e = let z : _≡_ {A = ℕ} 0 1 = cc in absurd (omega arith)
+judged-one Sound (Refused s) e = clash (cc)
+judged-one (Refused r) Sound e = clash (cc)
 judged-one (Refused r) (Refused s) e = ap Refused (refusal-one r s e)
 
 -- ---- one theorem for each public function

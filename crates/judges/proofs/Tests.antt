@@ -10,8 +10,7 @@ use lib.ListN.{length, getD, take}
 use lib.Seq.{length-take-le, getD-take}
 use lib.Dec.{T, eqb, ltb, eqb→eq, eqb-refl, ltb→lt, lt→ltb}
 use borrow.Author.Tests.{eq-eqb, ne-eqb, not-false}
-use Rattle.trees.specs.Lists.{lowest}
-use Rattle.trees.specs.Rulings.{pick}
+use Rattle.trees.specs.Lists.{lowest, pick}
 use Rattle.trees.specs.Trees.{Leaf, isLeaf}
 use Rattle.trees.specs.Tables.{taxon, Pair}
 use Rattle.trees.specs.Sound.{SoundTree}

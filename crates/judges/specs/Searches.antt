@@ -11,8 +11,7 @@ use mathlib.Core.Bool.{Bool, not, _||_}
 use mathlib.Core.List.{List}
 use lib.ListN.{length, getD, take}
 use lib.Dec.{eqb, ltb}
-use Rattle.trees.specs.Lists.{lowest}
-use Rattle.trees.specs.Rulings.{pick}
+use Rattle.trees.specs.Lists.{lowest, pick}
 use Rattle.trees.specs.Tables.{taxon}
 
 unfoldable pub pairedCount : List ℕ → ℕ → Bool

@@ -1,7 +1,7 @@
 // Passes over a table without branches: the compiler makes eight entries a step of them.
 ghost use mathlib.Core.Path.{_≡_};
 ghost use lib.Dec.{T};
-ghost use Rattle.trees.specs.Rulings.{pick};
+ghost use Rattle.trees.specs.Lists.{pick};
 ghost use Rattle.judges.specs.Homes.{AllBelow};
 
 // What was noted so far, or 1 if this one is not right.

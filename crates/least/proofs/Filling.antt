@@ -9,7 +9,7 @@ use mathlib.Core.List.{List}
 use lib.ListN.{length, getD, set, length-set}
 use lib.Seq.{getD-set-same, getD-set-other}
 use lib.Dec.{eqb}
-use Rattle.trees.specs.Rulings.{pick}
+use Rattle.trees.specs.Lists.{pick}
 use Rattle.trees.specs.Trees.{none, up, kid, here, Leaf, Inner, Meet}
 use Rattle.trees.specs.Tables.{Pair, home}
 use Rattle.trees.specs.Sound.{Sound}

@@ -1,6 +1,5 @@
 -- One answer only: any two results that meet a contract of this crate are equal. Assumes nothing.
 use Prim.Native.Nat.{ℕ}
-use native.Mathlib.Omega.{arith}
 use mathlib.Core.Path.{_≡_, refl, sym, ap, _∙_}
 use mathlib.Core.List.{List}
 use Rattle.trees.specs.One.{Single}
@@ -8,6 +7,7 @@ use Rattle.trees.specs.Tables.{Pair}
 use Rattle.trees.specs.Sound.{Treelike}
 use Rattle.trees.specs.Trees.{Meet}
 use Rattle.trees.specs.declared.SpeciesNode.{SpeciesNode}
+use Rattle.trees.proofs.Bools.{clash}
 use Rattle.trees.proofs.One.{single-value, single-view, three}
 use Rattle.trees.proofs.Rulings.{refusal-one}
 use Rattle.trees.proofs.Meets.{meet-one}
@@ -30,8 +30,8 @@ counts-one a b e =
 
 pub least-one : (a b : LeastAnswer) → leastOf a ≡ leastOf b → a ≡ b
 least-one (Done a) (Done b) e = let q : countsOf a ≡ countsOf b = cc in ap Done (counts-one a b q)
-least-one (Done a) (Refused s) e = let z : _≡_ {A = ℕ} 0 1 = cc in absurd (omega arith)
-least-one (Refused r) (Done b) e = let z : _≡_ {A = ℕ} 0 1 = cc in absurd (omega arith)
+least-one (Done a) (Refused s) e = clash (cc)
+least-one (Refused r) (Done b) e = clash (cc)
 least-one (Refused r) (Refused s) e = ap Refused (refusal-one r s e)
 
 node-one : (a b : SpeciesNode) → a .0 ≡ b .0 → a ≡ b
@@ -39,13 +39,13 @@ node-one a b e = ap (λ (n : ℕ). record { 0 = n }) e
 
 pub dated-same : (a b : Dating) → datedOf a ≡ datedOf b → a ≡ b
 dated-same NotDuplication NotDuplication e = refl
-dated-same NotDuplication (From b) e = let z : _≡_ {A = ℕ} 0 1 = cc in absurd (omega arith)
-dated-same NotDuplication (Between b d) e = let z : _≡_ {A = ℕ} 0 1 = cc in absurd (omega arith)
-dated-same (From a) NotDuplication e = let z : _≡_ {A = ℕ} 0 1 = cc in absurd (omega arith)
+dated-same NotDuplication (From b) e = clash (cc)
+dated-same NotDuplication (Between b d) e = clash (cc)
+dated-same (From a) NotDuplication e = clash (cc)
 dated-same (From a) (From b) e = let q : a .0 ≡ b .0 = cc in ap From (node-one a b q)
-dated-same (From a) (Between b d) e = let z : _≡_ {A = ℕ} 0 1 = cc in absurd (omega arith)
-dated-same (Between a c) NotDuplication e = let z : _≡_ {A = ℕ} 0 1 = cc in absurd (omega arith)
-dated-same (Between a c) (From b) e = let z : _≡_ {A = ℕ} 0 1 = cc in absurd (omega arith)
+dated-same (From a) (Between b d) e = clash (cc)
+dated-same (Between a c) NotDuplication e = clash (cc)
+dated-same (Between a c) (From b) e = clash (cc)
 dated-same (Between a c) (Between b d) e =
     let p : a .0 ≡ b .0 = cc in
     let q : c .0 ≡ d .0 = cc in
@@ -53,8 +53,8 @@ dated-same (Between a c) (Between b d) e =
 
 pub dating-one : (a b : DatingAnswer) → datingOf a ≡ datingOf b → a ≡ b
 dating-one (dating.Dated a) (dating.Dated b) e = let q : datedOf a ≡ datedOf b = cc in ap dating.Dated (dated-same a b q)
-dating-one (dating.Dated a) (dating.Refused s) e = let z : _≡_ {A = ℕ} 0 1 = cc in absurd (omega arith)
-dating-one (dating.Refused r) (dating.Dated b) e = let z : _≡_ {A = ℕ} 0 1 = cc in absurd (omega arith)
+dating-one (dating.Dated a) (dating.Refused s) e = clash (cc)
+dating-one (dating.Refused r) (dating.Dated b) e = clash (cc)
 dating-one (dating.Refused r) (dating.Refused s) e = ap dating.Refused (refusal-one r s e)
 
 -- ---- one theorem for each public function

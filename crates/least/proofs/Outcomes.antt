@@ -23,7 +23,7 @@ use Rattle.histories.proofs.Legal.{least-legal, legal-agree}
 use Rattle.counts.specs.Tallies.{Counted, historyTally, Story}
 use Rattle.counts.proofs.Tallying.{tally-agree}
 use Rattle.least.specs.Filling.{FilledFrom}
-use Rattle.least.specs.Answers.{Outcome, onAccepted, leastOutcome}
+use Rattle.least.specs.Answers.{Outcome, leastOutcome}
 
 module _ {w : Pair} (S : Sound w) {p p′ l l′ : List ℕ} (F : FilledFrom w p p′ l l′) where
   pub filled-places : p′ ≡ replaced (leastPlaces w) p
@@ -57,7 +57,7 @@ unchanged p l n t v = record { answer = refused n t v; places = p; labels = l }
 
 module _ (w : Pair) (p l : List ℕ) (dw lw : ℕ) where
   stays : (n t v : ℕ) → leastRuling w p l dw lw ≡ refused n t v → unchanged p l n t v ≡ leastOutcome w p l dw lw
-  unfolding leastOutcome onAccepted
+  unfolding leastOutcome
   stays n t v e = rw e
 
   pub least-refused : (n t v : ℕ) → verdict (pairRules w) ≡ refused n t v → unchanged p l n t v ≡ leastOutcome w p l dw lw
@@ -77,7 +77,7 @@ module _ (w : Pair) (p l : List ℕ) (dw lw : ℕ) where
 
     pub least-done : (p′ l′ : List ℕ) (c : Counts) → FilledFrom w p p′ l l′ → length (w .gp) ≤ length p → length (w .gp) ≤ length l → c ≡ leastCounts w dw lw
         → _≡_ {A = Outcome} (record { answer = accepted c; places = p′; labels = l′ }) (leastOutcome w p l dw lw)
-    unfolding leastOutcome onAccepted
+    unfolding leastOutcome
     least-done p′ l′ c F b d e =
         let r : leastRuling w p l dw lw ≡ accepted c =
         (history-accepted w p l dw lw c) .1 (record { sound = least-sound; places-room = b; labels-room = d; value = sym e }) in

@@ -11,10 +11,10 @@ use Prim.Native.Nat.{ℕ, _≤_, _<_}
 use mathlib.Core.Path.{_≡_}
 use mathlib.Core.List.{List}
 use lib.ListN.{length}
-use Rattle.trees.specs.Rulings.{Ruling, accepted, refused, refusedBy}
+use Rattle.trees.specs.Rulings.{Ruling, accepted, refusedBy}
 use Rattle.trees.specs.Tables.{Pair}
 use Rattle.trees.specs.Sound.{Treelike, Sound}
-use Rattle.trees.specs.Lent.{replaced}
+use Rattle.trees.specs.Lent.{onAccepted}
 use Rattle.histories.specs.Histories.{leastPlaces, leastLabels}
 use Rattle.histories.specs.Dating.{Dated, notDuplication, from, between}
 use Rattle.histories.specs.Rules.{Counts, leastRuling}
@@ -38,10 +38,6 @@ pub record Outcome : Type 0 where
   pub answer : Ruling Counts
   pub places : List ℕ
   pub labels : List ℕ
-
-unfoldable pub onAccepted : {A : Type 0} → Ruling A → List ℕ → List ℕ → List ℕ
-onAccepted (accepted a) new old = replaced new old
-onAccepted (refused n t v) new old = old
 
 unfoldable pub leastOutcome : Pair → List ℕ → List ℕ → ℕ → ℕ → Outcome
 leastOutcome w places labels dw lw =

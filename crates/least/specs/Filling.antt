@@ -16,7 +16,7 @@ use mathlib.Core.Bool.{_||_}
 use mathlib.Core.List.{List}
 use lib.ListN.{length, getD, set, drop}
 use lib.Dec.{eqb}
-use Rattle.trees.specs.Rulings.{pick}
+use Rattle.trees.specs.Lists.{pick}
 use Rattle.trees.specs.Trees.{none, up, Leaf, Inner, Meet}
 use Rattle.trees.specs.Sound.{Treelike, Sound}
 use Rattle.trees.specs.Tables.{Pair}

@@ -10,8 +10,7 @@ use lib.ListN.{length, getD, set, replicate, length-set, length-replicate, getD-
 use lib.Seq.{getD-set-same, getD-set-other}
 use lib.Dec.{eqb}
 use borrow.Author.Tests.{eq-eqb, ne-eqb, lt-ltb, le-ltb}
-use Rattle.trees.specs.Lists.{range, keepIf, total}
-use Rattle.trees.specs.Rulings.{pick}
+use Rattle.trees.specs.Lists.{range, keepIf, total, pick}
 use Rattle.trees.specs.Trees.{up, Below, kids, nodes, kid}
 use Rattle.trees.specs.Sound.{SoundTree}
 use Rattle.trees.proofs.Lists.{only, total-keep, total-more, total-none}

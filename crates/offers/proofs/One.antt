@@ -1,11 +1,11 @@
 -- One answer only: any two answers that meet a contract of this crate are equal. Assumes nothing.
 use Prim.Native.Nat.{ℕ}
-use native.Mathlib.Omega.{arith}
 use mathlib.Core.Path.{_≡_, ap}
 use mathlib.Core.List.{List}
 use Rattle.trees.specs.One.{Single}
 use Rattle.trees.specs.Rulings.{ruling, verdict}
 use Rattle.trees.specs.Tables.{Pair}
+use Rattle.trees.proofs.Bools.{clash}
 use Rattle.trees.proofs.One.{single-view}
 use Rattle.trees.proofs.Rulings.{refusal-one}
 use Rattle.histories.specs.Histories.{History, everyNode}
@@ -23,8 +23,8 @@ counts-one a b e = ap (λ (c : OfferCounts). record { duplications = c .duplicat
 
 pub offered-one : (a b : Offered) → offeredOf a ≡ offeredOf b → a ≡ b
 offered-one (Legal a) (Legal b) e = let q : countsOf a ≡ countsOf b = cc in ap Legal (counts-one a b q)
-offered-one (Legal a) (Refused s) e = let z : _≡_ {A = ℕ} 0 1 = cc in absurd (omega arith)
-offered-one (Refused r) (Legal b) e = let z : _≡_ {A = ℕ} 0 1 = cc in absurd (omega arith)
+offered-one (Legal a) (Refused s) e = clash (cc)
+offered-one (Refused r) (Legal b) e = clash (cc)
 offered-one (Refused r) (Refused s) e = ap Refused (refusal-one r s e)
 
 -- ---- one theorem for each public function

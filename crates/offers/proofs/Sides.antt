@@ -10,8 +10,7 @@ use lib.ListN.{length, getD, set, replicate, length-set, length-replicate, getD-
 use lib.Seq.{getD-set-same, getD-set-other}
 use lib.Dec.{T, eqb, eqb→eq, eqb-refl}
 use borrow.Author.Tests.{eq-eqb, ne-eqb}
-use Rattle.trees.specs.Lists.{range, consIf, keepIf, first}
-use Rattle.trees.specs.Rulings.{pick}
+use Rattle.trees.specs.Lists.{range, consIf, keepIf, first, pick}
 use Rattle.trees.specs.Trees.{none, up, line, Below, kid, Inner, nodes, kids}
 use Rattle.trees.specs.Sound.{SoundTree}
 use Rattle.trees.proofs.Lists.{first-yes, first-no, first-none, first-has, any-cases, keep-last}

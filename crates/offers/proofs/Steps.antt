@@ -9,7 +9,7 @@ use lib.ListN.{length, getD, set}
 use lib.Dec.{T, eqb}
 use borrow.Author.Tests.{eq-eqb, ne-eqb, lt-ltb, le-ltb, not-true, not-false}
 use borrow.Author.Count.{below-none, below-more}
-use Rattle.trees.specs.Rulings.{pick}
+use Rattle.trees.specs.Lists.{pick}
 use Rattle.trees.specs.Trees.{none}
 use Rattle.trees.specs.Tables.{taxon}
 use Rattle.trees.proofs.Bools.{true-T}

@@ -9,7 +9,7 @@ use mathlib.Core.List.{List}
 use lib.ListN.{length, getD}
 use lib.Dec.{eqb, ltb, eqb→eq, eqb-refl, T-not, not-T}
 use borrow.Author.Tests.{eq-eqb, ne-eqb, lt-ltb, le-ltb}
-use Rattle.trees.specs.Rulings.{pick}
+use Rattle.trees.specs.Lists.{pick}
 use Rattle.trees.specs.Trees.{none, up, Below, here, step, kid, Leaf, Inner, isLeaf}
 use Rattle.trees.specs.Tables.{Pair, taxon}
 use Rattle.trees.specs.Sound.{Sound}

@@ -16,8 +16,7 @@ use mathlib.Core.Path.{_≡_}
 use mathlib.Core.List.{List}
 use lib.ListN.{length, getD}
 use lib.Dec.{eqb, ltb}
-use Rattle.trees.specs.Lists.{range, keepIf, total}
-use Rattle.trees.specs.Rulings.{pick}
+use Rattle.trees.specs.Lists.{range, keepIf, total, pick}
 use Rattle.trees.specs.Trees.{up, Below, kid}
 use Rattle.trees.specs.Sound.{Treelike}
 use Rattle.histories.specs.Legal.{Apart}

@@ -14,8 +14,7 @@ use mathlib.Core.Bool.{_||_}
 use mathlib.Core.List.{List, [], _∷_}
 use lib.ListN.{length, getD}
 use lib.Dec.{eqb}
-use Rattle.trees.specs.Lists.{range, keepIf, first}
-use Rattle.trees.specs.Rulings.{pick}
+use Rattle.trees.specs.Lists.{range, keepIf, first, pick}
 use Rattle.trees.specs.Trees.{none, up, line}
 use Rattle.trees.specs.Sound.{Treelike}
 

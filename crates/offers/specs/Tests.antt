@@ -15,9 +15,8 @@ use mathlib.Core.Bool.{Bool, true, _&&_, _||_, not}
 use mathlib.Core.List.{List}
 use lib.ListN.{length, getD, replicate}
 use lib.Dec.{T, eqb, ltb}
-use Rattle.trees.specs.Rulings.{pick}
 use Rattle.trees.specs.Trees.{none}
-use Rattle.trees.specs.Lists.{lowest}
+use Rattle.trees.specs.Lists.{lowest, pick}
 use Rattle.trees.specs.Sound.{Treelike}
 use Rattle.trees.specs.Tables.{taxon}
 use Rattle.offers.specs.Sides.{sideOf, Sided}

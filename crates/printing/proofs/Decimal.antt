@@ -9,8 +9,7 @@ use mathlib.Core.List.{List, [], _∷_, _++_}
 use lib.ListN.{length, getD, length-append, List·getD-append}
 use lib.Dec.{T}
 use borrow.Author.Tests.{lt-ltb, le-ltb}
-use Rattle.trees.specs.Lists.{all}
-use Rattle.trees.specs.Rulings.{pick}
+use Rattle.trees.specs.Lists.{all, pick}
 use Rattle.trees.proofs.Bools.{T-true}
 use Rattle.reading.specs.Numbers.{digit, spelled, value, digitsOf, decimal}
 use Rattle.reading.proofs.Digits.{is-digit, all-append, value-more}

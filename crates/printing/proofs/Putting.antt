@@ -8,7 +8,7 @@ use mathlib.Core.List.{List, [], _∷_, _++_, append-nil, append-assoc}
 use lib.ListN.{length, set, length-append}
 use lib.Seq.{sets, length-sets, sets-eq, set-comm}
 use borrow.Author.Tests.{le-leb, lt-leb}
-use Rattle.trees.specs.Rulings.{pick}
+use Rattle.trees.specs.Lists.{pick}
 use Rattle.trees.specs.Lent.{replaced}
 use Rattle.reading.specs.Numbers.{decimal}
 use Rattle.printing.specs.Printing.{ended}

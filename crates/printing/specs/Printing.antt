@@ -12,7 +12,8 @@
 use Prim.Native.Nat.{ℕ}
 use mathlib.Core.List.{List, [], _∷_, _++_}
 use lib.Dec.{eqb}
-use Rattle.trees.specs.Rulings.{Ruling, accepted, refused, pick, ruling}
+use Rattle.trees.specs.Lists.{pick}
+use Rattle.trees.specs.Rulings.{Ruling, accepted, refused, ruling}
 use Rattle.trees.specs.Trees.{nodes}
 use Rattle.trees.specs.Tables.{Pair}
 use Rattle.trees.specs.Rules.{pairRules}

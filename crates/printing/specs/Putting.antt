@@ -15,8 +15,7 @@ use mathlib.Core.List.{List}
 use lib.ListN.{length}
 use lib.Seq.{sets}
 use lib.Dec.{leb}
-use Rattle.trees.specs.Lists.{range}
-use Rattle.trees.specs.Rulings.{pick}
+use Rattle.trees.specs.Lists.{range, pick}
 use Rattle.trees.specs.Lent.{replaced}
 use Rattle.histories.specs.Histories.{told}
 use Rattle.histories.specs.Rules.{Counts}

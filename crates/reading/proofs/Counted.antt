@@ -1,6 +1,5 @@
 -- The two counts: what reading them says of their rules. Assumes nothing.
 use Prim.Native.Nat.{ℕ, _≤_, _<_}
-use native.Mathlib.Omega.{arith}
 use mathlib.Core.Path.{_≡_, refl, sym, ap, _∙_}
 use mathlib.Core.Bool.{Bool, false, _&&_}
 use mathlib.Core.List.{List, [], _∷_}
@@ -8,7 +7,7 @@ use lib.ListN.{length, getD, drop}
 use lib.Dec.{T, leb, leb→le, le→leb}
 use borrow.Author.Tests.{lt-leb}
 use Rattle.trees.specs.Rulings.{whole, refused, refusedBy, verdict, fine, numberOf, treeOf, done, and}
-use Rattle.trees.proofs.Bools.{and-both, and-right}
+use Rattle.trees.proofs.Bools.{and-both, and-right, clash}
 use Rattle.trees.proofs.Rulings.{ruling-pass, ruling-fail}
 use Rattle.reading.specs.Numbers.{value, isNumber}
 use Rattle.reading.specs.Words.{words}
@@ -25,7 +24,7 @@ pub sizes-refused : (text : List ℕ) (r : Sizes) (f : Refusal) → r ≡ Refuse
 sizes-refused text r f e v = rw e v
 
 pub sizes-refusal : (text : List ℕ) (r : Sizes) (f : Refusal) → r ≡ Refused f → SizesBy r text → verdict (countRules text) ≡ refusedBy f
-sizes-refusal text (Both p q next) f e R = let z : _≡_ {A = ℕ} 0 1 = cc in absurd (omega arith)
+sizes-refusal text (Both p q next) f e R = clash (cc)
 sizes-refusal text (Refused g) f e v = let q : g ≡ f = cc in v ∙ rw q
 
 pub sizes-read : (text : List ℕ) (r : Sizes) (p q next : ℕ) → r ≡ Both p q next → SizesBy r text → SizesRead text p q next
@@ -34,7 +33,7 @@ sizes-read text (Both p′ q′ next′) p q next e R =
     let b : q′ ≡ q = cc in
     let c : next′ ≡ next = cc in
     rw c at (rw b at (rw a at R))
-sizes-read text (Refused g) p q next e v = let z : _≡_ {A = ℕ} 0 1 = cc in absurd (omega arith)
+sizes-read text (Refused g) p q next e v = clash (cc)
 
 pub counted-few : (n : ℕ) → T (counted n) → n ≤ 2047
 unfolding counted

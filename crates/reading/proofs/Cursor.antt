@@ -12,8 +12,8 @@ use lib.ListN.{length, getD, drop, drop-of-length-le, length-drop}
 use lib.Seq.{drop-cons, drop-drop}
 use lib.Dec.{T}
 use borrow.Author.Tests.{not-true}
-use Rattle.trees.specs.Rulings.{pick}
-use Rattle.trees.proofs.Bools.{test, true-T}
+use Rattle.trees.specs.Lists.{pick}
+use Rattle.trees.proofs.Bools.{test, true-T, clash}
 use Rattle.reading.specs.Numbers.{value, isNumber}
 use Rattle.reading.specs.Words.{blank, opens, words}
 use Rattle.reading.specs.Cursor.{gap, wordOf, pastBlanks, found, nothing, numberAt, numberFrom}
@@ -35,7 +35,7 @@ module _ (text : List ℕ) where
   opens-inside i e =
       elim (decLt i (length text)) [
         | yes h ↦ h
-        | no h ↦ let f : opens (drop i text) ≡ false = opens-end i (omega arith) in let z : _≡_ {A = ℕ} 0 1 = cc in absurd (omega arith)
+        | no h ↦ let f : opens (drop i text) ≡ false = opens-end i (omega arith) in clash (cc)
       ]
 
   pub opens-solid : (i : ℕ) → opens (drop i text) ≡ true → blank (getD text i 0) ≡ false
@@ -84,7 +84,7 @@ module _ (text : List ℕ) (at : ℕ) where
   number-none e =
       rw (past-first text at)
       (elim (test (isNumber 32 (wordOf (drop (pastBlanks text at) text)))) [
-        | inl t ↦ let q = rw t at e in let z : _≡_ {A = ℕ} 0 1 = cc in absurd (omega arith)
+        | inl t ↦ let q = rw t at e in clash (cc)
         | inr f ↦ f
       ])
 
@@ -106,5 +106,5 @@ module _ (text : List ℕ) (at : ℕ) where
               told = cc;
               inside = rw n (omega (arith, word-few l, length-drop s text, past-inside text at h));
             }
-        | inr f ↦ let q : found v next ≡ nothing = rw f at e in let z : _≡_ {A = ℕ} 0 1 = cc in absurd (omega arith)
+        | inr f ↦ let q : found v next ≡ nothing = rw f at e in clash (cc)
       ]

@@ -7,6 +7,7 @@ use mathlib.Core.Bool.{false}
 use mathlib.Core.List.{List, [], _∷_, _++_, append-assoc, map-append}
 use lib.ListN.{length, getD, take, drop, set, replicate, replicate-append-replicate}
 use lib.Seq.{take-length, take-suc-set}
+use Rattle.trees.proofs.Bools.{clash}
 use Rattle.reading.specs.Numbers.{value, isNumber}
 use Rattle.reading.specs.Words.{words}
 use Rattle.reading.specs.Reading.{treeWidths, fits}
@@ -90,10 +91,10 @@ fill-end text at width table i next e K = let t : take (length table) table ≡ 
 module _ (text : List ℕ) (at : ℕ) (bs es : List ℕ) where
   pub filled-past : (r : Filled) (next : ℕ) → r ≡ Past next → FilledBy r text at bs es → Taken text at bs es next
   filled-past (Past after) next e K = let n : after ≡ next = cc in rw n at K
-  filled-past Malformed next e f = let z : _≡_ {A = ℕ} 0 1 = cc in absurd (omega arith)
+  filled-past Malformed next e f = clash (cc)
 
   pub filled-short : (r : Filled) → r ≡ Malformed → FilledBy r text at bs es → (more : List ℕ) → fits (bs ++ more) (words (drop at text)) ≡ false
-  filled-short (Past after) e K = let z : _≡_ {A = ℕ} 0 1 = cc in absurd (omega arith)
+  filled-short (Past after) e K = clash (cc)
   filled-short Malformed e f = f
 
 -- ---- the two tables of a tree

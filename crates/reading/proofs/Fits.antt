@@ -1,6 +1,5 @@
 -- Words that fit widths, in parts. Assumes nothing.
 use Prim.Native.Nat.{ℕ, _^_, _≤_, _<_}
-use native.Mathlib.Omega.{arith}
 use native.Mathlib.Nat.{lt-of-lt-of-le}
 use mathlib.Core.Path.{_≡_, refl, _∙_}
 use mathlib.Core.Logic.{inl, inr}
@@ -10,7 +9,7 @@ use lib.ListN.{getD}
 use lib.Pow.{pow-mono}
 use lib.Dec.{T, ltb}
 use borrow.Author.Tests.{lt-ltb, le-ltb}
-use Rattle.trees.proofs.Bools.{and-both, and-left, and-right, test, T-true, true-T}
+use Rattle.trees.proofs.Bools.{and-both, and-left, and-right, test, T-true, true-T, clash}
 use Rattle.reading.specs.Numbers.{value, isNumber}
 use Rattle.reading.specs.Reading.{fits}
 use Rattle.reading.proofs.Digits.{number-is, is-number}
@@ -34,7 +33,7 @@ narrow-none k w h e =
       | inl t ↦
           let n = number-is k w (true-T t) in
           let f : isNumber 32 w ≡ true = is-number 32 w (n .some) (n .few) (n .digits) ∙ lt-ltb (value w) (2 ^ 32) (lt-of-lt-of-le (n .fits) (pow-mono h)) in
-          let z : _≡_ {A = ℕ} 0 1 = cc in absurd (omega arith)
+          clash (cc)
       | inr f ↦ f
     ]
 
@@ -62,4 +61,4 @@ fits-none b bs (w ∷ ws) e = rw e
 pub fits-nil : (ws : List (List ℕ)) → fits [] ws ≡ true → ws ≡ []
 unfolding fits
 fits-nil [] e = refl
-fits-nil (w ∷ ws) e = let z : _≡_ {A = ℕ} 0 1 = cc in absurd (omega arith)
+fits-nil (w ∷ ws) e = clash (cc)

@@ -10,6 +10,7 @@ use lib.Seq.{take-append-seam, drop-append-seam, take-at, drop-at, take-length, 
 use lib.Dec.{eqb}
 use borrow.Author.Tests.{eq-eqb, ne-eqb}
 use Rattle.trees.specs.Tables.{Pair, pair}
+use Rattle.trees.proofs.Bools.{clash}
 use Rattle.reading.specs.Numbers.{value}
 use Rattle.reading.specs.Words.{words}
 use Rattle.reading.specs.Reading.{treeWidths, widths, fits, tablesOf}
@@ -55,7 +56,7 @@ module _ (text : List ℕ) (at : ℕ) (w : Pair) where
   -- the words of the species tree, or then those of the gene tree, are not there
   pub species-short : ((more : List ℕ) → fits (treeWidths (length (w .sp)) ++ more) (words (drop at text)) ≡ false) → TablesRead text at w false
   unfolding widths
-  species-short f = record { fit = sym (f (treeWidths (length (w .gp)))); told = λ e. let z : _≡_ {A = ℕ} 0 1 = cc in absurd (omega arith) }
+  species-short f = record { fit = sym (f (treeWidths (length (w .gp)))); told = λ e. clash (cc) }
 
   module _ (a : ℕ) (K : Taken text at (treeWidths (length (w .sp))) (w .sp ++ w .st) a) where
     pub genes-short : ((more : List ℕ) → fits (treeWidths (length (w .gp)) ++ more) (words (drop a text)) ≡ false) → TablesRead text at w false

@@ -10,8 +10,7 @@ use lib.ListN.{length, getD, drop, length-append}
 use lib.Seq.{drop-cons}
 use lib.Dec.{T, ltb}
 use borrow.Author.Tests.{lt-ltb, le-ltb, ne-eqb}
-use Rattle.trees.specs.Rulings.{pick}
-use Rattle.trees.specs.Lists.{all}
+use Rattle.trees.specs.Lists.{all, pick}
 use Rattle.trees.proofs.Bools.{T-true}
 use Rattle.reading.specs.Numbers.{digit, spelled, value}
 use Rattle.reading.specs.Words.{blank, opens}

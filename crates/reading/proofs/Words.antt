@@ -8,8 +8,8 @@ use mathlib.Core.Bool.{true, false}
 use mathlib.Core.List.{List, [], _∷_}
 use lib.ListN.{length, getD, drop}
 use borrow.Author.Tests.{not-true, not-false}
-use Rattle.trees.specs.Rulings.{pick}
-use Rattle.trees.proofs.Bools.{test}
+use Rattle.trees.specs.Lists.{pick}
+use Rattle.trees.proofs.Bools.{test, clash}
 use Rattle.reading.specs.Words.{blank, opens, grown, words}
 use Rattle.reading.specs.Cursor.{gap, wordOf}
 
@@ -35,7 +35,7 @@ word-few (b ∷ l) = elim (test (blank b)) [ inl e ↦ rw e (omega arith) | inr 
 -- a text that begins with a byte of a word begins with the whole word
 pub words-opens : (l : List ℕ) → opens l ≡ true → words l ≡ wordOf l ∷ words (drop (length (wordOf l)) l)
 unfolding opens wordOf words grown pick
-words-opens [] e = let z : _≡_ {A = ℕ} 0 1 = cc in absurd (omega arith)
+words-opens [] e = clash (cc)
 words-opens (b ∷ l) e =
     elim (test (opens l)) [
       | inl o ↦ rw (not-true (blank b) e, o, words-opens l o)

@@ -9,7 +9,7 @@
 use Prim.Native.Nat.{ℕ, suc, _+_}
 use mathlib.Core.List.{List, [], _∷_}
 use lib.ListN.{length, drop}
-use Rattle.trees.specs.Rulings.{pick}
+use Rattle.trees.specs.Lists.{pick}
 use Rattle.reading.specs.Numbers.{value, isNumber}
 use Rattle.reading.specs.Words.{blank}
 

@@ -9,8 +9,7 @@ use mathlib.Core.Bool.{Bool, _&&_}
 use mathlib.Core.List.{List, [], _∷_, _++_}
 use lib.ListN.{length}
 use lib.Dec.{ltb, leb}
-use Rattle.trees.specs.Lists.{all}
-use Rattle.trees.specs.Rulings.{pick}
+use Rattle.trees.specs.Lists.{all, pick}
 
 unfoldable pub digit : ℕ → Bool
 digit b = leb 48 b && leb b 57

@@ -7,7 +7,7 @@ ghost use mathlib.Core.Bool.{_&&_};
 ghost use mathlib.Core.List.{_++_};
 ghost use lib.ListN.{length, drop, replicate};
 ghost use lib.Dec.{ltb};
-ghost use Rattle.trees.specs.Rulings.{pick};
+ghost use Rattle.trees.specs.Lists.{pick};
 ghost use Rattle.trees.specs.Tables.{pair};
 ghost use Rattle.reading.specs.Numbers.{digit};
 ghost use Rattle.reading.specs.Words.{blank, opens};

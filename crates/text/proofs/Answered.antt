@@ -9,8 +9,8 @@ use lib.ListN.{length, take, drop, replicate, length-replicate}
 use lib.Seq.{length-take-le}
 use lib.Dec.{T, leb, le→leb}
 use borrow.Author.Tests.{leb-true}
-use Rattle.trees.specs.Lists.{range, has}
-use Rattle.trees.specs.Rulings.{accepted, Rule, whole, ruling, fine, numberOf, treeOf, Passes, pick}
+use Rattle.trees.specs.Lists.{range, has, pick}
+use Rattle.trees.specs.Rulings.{accepted, Rule, whole, ruling, fine, numberOf, treeOf, Passes}
 use Rattle.trees.specs.Trees.{nodes}
 use Rattle.trees.specs.Tables.{Pair, pair}
 use Rattle.trees.specs.Lent.{replaced}
@@ -23,7 +23,7 @@ use Rattle.trees.proofs.Rulings.{rule-cases, ruling-pass, ruling-fail, ruling-a
 use Rattle.histories.specs.Histories.{History, told, least, leastPlaces, leastLabels}
 use Rattle.histories.specs.Rules.{roomy, leastRules, leastCounts, leastRuling}
 use Rattle.histories.proofs.Tables.{length-places, length-labels, getD-places, getD-labels}
-use Rattle.least.specs.Answers.{countsOf, leastOf, onAccepted, leastOutcome}
+use Rattle.least.specs.Answers.{countsOf, leastOf, leastOutcome}
 use Rattle.least.specs.Answers as least-answers
 use Rattle.least.specs.declared.LeastCounts.{LeastCounts}
 use Rattle.least.specs.declared.LeastAnswer.{LeastAnswer}
@@ -94,7 +94,7 @@ module _ (w : Pair) where
 
     pub answered-done : (c : LeastCounts) → r ≡ Done c
         → answered w ≡ toldLines (take (length (w .gp)) places) (take (length (w .gp)) labels) ++ countsLine (countsOf c)
-    unfolding answered report leastOutcome onAccepted
+    unfolding answered report leastOutcome
     answered-done c q =
         let a : leastRuling w zeros zeros 1 1 ≡ accepted (countsOf c) = sym (ap (λ o. o .answer) e) ∙ ap leastOf q in
         let P : places ≡ replaced (leastPlaces w) zeros = ap (λ o. o .places) e ∙ rw a in

@@ -12,7 +12,7 @@ use mathlib.Core.List.{List}
 use lib.ListN.{length}
 use borrow.Author.Tests.{le-leb}
 use Rattle.trees.specs.One.{Single}
-use Rattle.trees.specs.Rulings.{pick}
+use Rattle.trees.specs.Lists.{pick}
 use Rattle.trees.specs.Lent.{replaced}
 use Rattle.trees.proofs.One.{both}
 use Rattle.printing.specs.Printing.{printed}

@@ -15,6 +15,7 @@ use Rattle.trees.specs.Trees.{nodes}
 use Rattle.trees.specs.Tables.{Pair}
 use Rattle.trees.specs.Sound.{Sound}
 use Rattle.trees.specs.Rules.{shapeRules, speciesRules, familyRules, geneRules, pairRules}
+use Rattle.trees.proofs.Bools.{clash}
 use Rattle.trees.proofs.Rulings.{rule-cases, ruling-pass, ruling-fail, ruling-accepted, every-right, every-head, every-tail}
 use Rattle.trees.proofs.Judged.{pair-sound}
 use Rattle.histories.specs.Histories.{History, least, cost}
@@ -62,7 +63,7 @@ small-fails (each n t k ok) v s f = (s .0, s .1, omega (arith, s .2, f .0))
 
 ruling-small : {A : Type 0} (rs : List Rule) (a : A) (n t v : ℕ) → Every Small rs → ruling rs a ≡ refused n t v → (n ≤ 20) × (t ≤ 2) × (v ≤ 2046)
 unfolding ruling
-ruling-small [] a n t v done e = let z : _≡_ {A = ℕ} 0 1 = cc in absurd (omega arith)
+ruling-small [] a n t v done e = clash (cc)
 ruling-small (r ∷ rs) a n t v (and s ss) e =
     elim (rule-cases r) [
       | inl p ↦ ruling-small rs a n t v ss (sym (ruling-pass r rs a p) ∙ e)

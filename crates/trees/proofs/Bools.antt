@@ -1,4 +1,6 @@
--- Tests joined. Assumes nothing.
+-- Tests joined, and what two constructors that are equal show: anything. Assumes nothing.
+use Prim.Native.Nat.{ℕ}
+use native.Mathlib.Omega.{arith}
 use mathlib.Core.Path.{_≡_, refl}
 use mathlib.Core.Logic.{_⊎_, inl, inr}
 use mathlib.Core.Bool.{Bool, true, false, _||_, _&&_}
@@ -54,3 +56,7 @@ T-same true true f g = refl
 T-same true false f g = absurd (f tt)
 T-same false true f g = absurd (g tt)
 T-same false false f g = refl
+
+-- `cc` tells two constructors apart by an equation of numbers, from which anything follows
+pub clash : {A : Type 0} → _≡_ {A = ℕ} 0 1 → A
+clash z = absurd (omega arith)

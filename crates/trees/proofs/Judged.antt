@@ -9,11 +9,11 @@ use mathlib.Core.List.{List, [], _∷_}
 use lib.ListN.{length}
 use lib.Dec.{T, eqb, ltb, leb, eqb→eq, eqb-refl, ltb→lt, lt→ltb, leb→le, le→leb, T-not, not-T}
 use borrow.Author.Tests.{ne-eqb}
-use Rattle.trees.specs.Lists.{range, any}
+use Rattle.trees.specs.Lists.{range, any, pick}
 use Rattle.trees.specs.Trees.{none, up, nodes, kids, Leaf, Inner, isLeaf}
 use Rattle.trees.specs.Tables.{taxon, Pair}
 use Rattle.trees.specs.Sound.{SoundTree, Distinct, Known, SoundSpecies, Sound}
-use Rattle.trees.specs.Rulings.{accepted, each, pick, verdict, fine, Passes, Every, done, and}
+use Rattle.trees.specs.Rulings.{accepted, each, verdict, fine, Passes, Every, done, and}
 use Rattle.trees.specs.Rules.{sized, ordered, paired, marked, fresh, known, shapeRules, speciesRules, familyRules, geneRules, pairRules}
 use Rattle.trees.proofs.Bools.{or-left, or-right, or-cases, and-both, and-left, and-right, test, T-true, true-T}
 use Rattle.trees.proofs.Lists.{any-has, has-any, has-range, range-has}

@@ -9,4 +9,5 @@ pub mod Sound
 pub mod Shape
 pub mod Judged
 pub mod Lent
+pub mod Spots
 pub mod One

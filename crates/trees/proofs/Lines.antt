@@ -20,6 +20,10 @@ pub up-at : (par : List ℕ) (i : ℕ) → i < length par → up par i ≡ getD 
 unfolding up
 up-at par i h = getD-any par i none 0 h
 
+-- a node's entry in the table, where its parent is known to be low
+pub parent-in : (par : List ℕ) (i : ℕ) {k : ℕ} → i < length par → up par i < k → getD par i 0 < k
+parent-in par i h u = rw (up-at par i h) at u
+
 module _ {par : List ℕ} where
   pub top-node : {a x : ℕ} → Below par a x → a < length par
   top-node (here l) = l

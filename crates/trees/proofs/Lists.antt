@@ -11,7 +11,7 @@ use mathlib.Core.List.{List, [], _∷_, _++_, nil≢cons, head-eq-of-cons-eq, ta
 use lib.ListN.{length, getD, length-append}
 use lib.Dec.{T, eqb, eqb→eq, eqb-refl}
 use borrow.Author.Tests.{eq-eqb, ne-eqb, not-true, not-false}
-use Rattle.trees.specs.Lists.{range, consIf, keepIf, has, all, any, choose, first, total, one, lowest}
+use Rattle.trees.specs.Lists.{range, consIf, keepIf, has, all, any, pick, first, total, one, lowest}
 use Rattle.trees.proofs.Bools.{or-left, or-right, or-cases, and-both, and-left, and-right, test, T-true, true-T}
 
 -- v where the test passes, 0 where it fails
@@ -171,11 +171,11 @@ has-getD x d [] t = absurd t
 has-getD x d (y ∷ l) t = has-head y l
 
 pub first-yes : (p : ℕ → Bool) (x : ℕ) (l : List ℕ) (d : ℕ) → p x ≡ true → first p (x ∷ l) d ≡ x
-unfolding first choose
+unfolding first pick
 first-yes p x l d e = rw e
 
 pub first-no : (p : ℕ → Bool) (x : ℕ) (l : List ℕ) (d : ℕ) → p x ≡ false → first p (x ∷ l) d ≡ first p l d
-unfolding first choose
+unfolding first pick
 first-no p x l d e = rw e
 
 -- where some member passes, the first that does is a member and passes

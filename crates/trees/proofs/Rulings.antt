@@ -6,10 +6,10 @@ use mathlib.Core.Logic.{_⊎_, inl, inr, _↔_}
 use mathlib.Core.Bool.{Bool}
 use mathlib.Core.List.{List, [], _∷_, _++_}
 use borrow.Author.Tests.{eq-eqb, ne-eqb}
-use Rattle.trees.specs.Lists.{lowest}
-use Rattle.trees.specs.Rulings.{Ruling, accepted, refused, refusedBy, Rule, whole, each, pick, ruling, numberOf, treeOf, Passes, Fails, Every, done, and}
+use Rattle.trees.specs.Lists.{lowest, pick}
+use Rattle.trees.specs.Rulings.{Ruling, accepted, refused, refusedBy, Rule, whole, each, ruling, numberOf, treeOf, Passes, Fails, Every, done, and}
 use Rattle.trees.specs.declared.Refusal.{Refusal}
-use Rattle.trees.proofs.Bools.{test, T-true, true-T}
+use Rattle.trees.proofs.Bools.{test, T-true, true-T, clash}
 use Rattle.trees.proofs.Lists.{lowest-is, lowest-none, lowest-cases}
 
 -- rules joined
@@ -74,7 +74,7 @@ ruling-all (r ∷ rs) ss a (and p ps) = ruling-pass r (rs ++ ss) a p ∙ ruling-
 -- a refusal stays, whatever rules follow
 pub ruling-stays : {A B : Type 0} (rs ss : List Rule) (a : A) (b : B) (n t v : ℕ) → ruling rs a ≡ refused n t v → ruling (rs ++ ss) b ≡ refused n t v
 unfolding ruling
-ruling-stays [] ss a b n t v e = let z : _≡_ {A = ℕ} 0 1 = cc in absurd (omega arith)
+ruling-stays [] ss a b n t v e = clash (cc)
 ruling-stays (r ∷ rs) ss a b n t v e =
     elim (rule-cases r) [
       | inl p ↦ ruling-pass r (rs ++ ss) b p ∙ ruling-stays rs ss a b n t v (sym (ruling-pass r rs a p) ∙ e)
@@ -88,7 +88,7 @@ ruling-accepted [] a b e = (done, cc)
 ruling-accepted (r ∷ rs) a b e =
     elim (rule-cases r) [
       | inl p ↦ let k = ruling-accepted rs a b (sym (ruling-pass r rs a p) ∙ e) in (and p (k .0), k .1)
-      | inr f ↦ let q = sym (ruling-fail r rs a (f .0) (f .1)) ∙ e in let z : _≡_ {A = ℕ} 0 1 = cc in absurd (omega arith)
+      | inr f ↦ let q = sym (ruling-fail r rs a (f .0) (f .1)) ∙ e in clash (cc)
     ]
 
 -- if every rule passes, it is accepted
@@ -114,7 +114,7 @@ pub record Broken (rs : List Rule) (n t v : ℕ) : Type 0 where
 
 pub ruling-refused : {A : Type 0} (rs : List Rule) (a : A) (n t v : ℕ) → ruling rs a ≡ refused n t v → Broken rs n t v
 unfolding ruling
-ruling-refused [] a n t v e = let z : _≡_ {A = ℕ} 0 1 = cc in absurd (omega arith)
+ruling-refused [] a n t v e = clash (cc)
 ruling-refused (r ∷ rs) a n t v e =
     elim (rule-cases r) [
       | inl p ↦

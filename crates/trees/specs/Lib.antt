@@ -5,4 +5,5 @@ pub mod Tables
 pub mod Sound
 pub mod Rules
 pub mod Lent
+pub mod Spots
 pub mod One

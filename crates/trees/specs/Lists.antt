@@ -1,4 +1,5 @@
 -- Lists of numbers, and tests over them. Every other definition is written with these.
+--   pick b x y       == x where b holds, else y
 --   range i k        == the k numbers from i on, ascending
 --   keepIf p l       == the members of l that pass p, in order
 --   has a l          == does a stand in l?
@@ -12,6 +13,10 @@ use Prim.Native.Nat.{ℕ, zero, suc, _+_}
 use mathlib.Core.Bool.{Bool, true, false, _&&_, _||_, not}
 use mathlib.Core.List.{List, [], _∷_}
 use lib.Dec.{eqb}
+
+unfoldable pub pick : {A : Type 0} → Bool → A → A → A
+pick true x y = x
+pick false x y = y
 
 unfoldable pub range : ℕ → ℕ → List ℕ
 range i zero = []
@@ -37,13 +42,9 @@ unfoldable pub any : (ℕ → Bool) → List ℕ → Bool
 any p [] = false
 any p (x ∷ l) = p x || any p l
 
-unfoldable pub choose : Bool → ℕ → ℕ → ℕ
-choose true a b = a
-choose false a b = b
-
 unfoldable pub first : (ℕ → Bool) → List ℕ → ℕ → ℕ
 first p [] d = d
-first p (x ∷ l) d = choose (p x) x (first p l d)
+first p (x ∷ l) d = pick (p x) x (first p l d)
 
 unfoldable pub total : (ℕ → ℕ) → List ℕ → ℕ
 total f [] = 0

@@ -5,17 +5,17 @@
 --   marked par tax i  == 4: "leaf has taxon 0 or inner node another"
 --   fresh sp st i     == 5: "species leaf's taxon stands at a lower leaf too"
 --   known w x         == 6: "gene leaf's taxon isn't a species taxon"
---   treeRules, speciesRules, geneRules, pairRules == the rules in 01's order
+--   shapeRules, speciesRules, familyRules, geneRules, pairRules == the rules in 01's order
 -- Each is the test that holds where nothing is refused. Only `ordered` asks how nodes are numbered. Assumes nothing.
 use Prim.Native.Nat.{ℕ}
 use mathlib.Core.Bool.{Bool, _&&_, _||_, not}
 use mathlib.Core.List.{List, [], _∷_, _++_}
 use lib.ListN.{length}
 use lib.Dec.{eqb, ltb, leb}
-use Rattle.trees.specs.Lists.{range, any}
+use Rattle.trees.specs.Lists.{range, any, pick}
 use Rattle.trees.specs.Trees.{none, up, nodes, kids, isLeaf}
 use Rattle.trees.specs.Tables.{taxon, Pair}
-use Rattle.trees.specs.Rulings.{Rule, whole, each, pick}
+use Rattle.trees.specs.Rulings.{Rule, whole, each}
 
 unfoldable pub sized : List ℕ → List ℕ → Bool
 sized par tax = (leb 1 (length par) && leb (length par) 2047) && eqb (length tax) (length par)

@@ -14,7 +14,7 @@ use mathlib.Core.Path.{_≡_}
 use mathlib.Core.Bool.{Bool, true, false}
 use mathlib.Core.List.{List, [], _∷_}
 use lib.Dec.{eqb, T}
-use Rattle.trees.specs.Lists.{lowest}
+use Rattle.trees.specs.Lists.{lowest, pick}
 use Rattle.trees.specs.declared.Refusal.{Refusal}
 
 pub data Ruling (A : Type 0) : Type 0 where
@@ -27,11 +27,6 @@ refusedBy r = refused (r .number) (r .tree) (r .place)
 pub data Rule : Type 0 where
   whole : ℕ → ℕ → ℕ → Bool → Rule
   each : ℕ → ℕ → ℕ → (ℕ → Bool) → Rule
-
--- a where the test holds, else b
-unfoldable pub pick : {A : Type 0} → Bool → A → A → A
-pick true a b = a
-pick false a b = b
 
 unfoldable pub ruling : {A : Type 0} → List Rule → A → Ruling A
 ruling [] a = accepted a

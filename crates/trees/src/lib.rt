@@ -6,6 +6,12 @@ pub struct SpeciesNode(pub usize);
 // A node of the gene tree, by its number.
 pub struct GeneNode(pub usize);
 
+// Where a species node was looked for and found; or nowhere.
+pub enum SpeciesSpot {
+    At(SpeciesNode),
+    Nowhere,
+}
+
 // Why a call refuses: the number of 01's table, the tree (0 none, 1 species, 2 gene) and the place, which is a node of that
 // tree, a block of an image or a byte of a text, or 0.
 pub struct Refusal {

@@ -9,7 +9,7 @@ use mathlib.Core.List.{List, [], _∷_, _++_}
 use lib.ListN.{length, getD, drop, set, length-set, length-drop, List·getD-append}
 use lib.Seq.{sets, length-take-le, getD-take, getD-drop, getD-append-add, getD-set-same, getD-set-other, ext-getD}
 use borrow.Author.Tests.{eq-eqb, ne-eqb}
-use Rattle.trees.specs.Rulings.{pick}
+use Rattle.trees.specs.Lists.{pick}
 use Rattle.blocks.specs.Blocks.{run, word, stored, part, inside, contents, count, content}
 use Rattle.words.specs.Words.{offset, after, puts, Within}
 use Rattle.blocks.proofs.Halves.{getD-joined}

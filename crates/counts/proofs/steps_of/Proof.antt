@@ -2,7 +2,7 @@
 use native.Mathlib.Omega.{arith}
 use lib.ListN.{length, getD}
 use borrow.Author.Tests.{lt-ltb, le-ltb}
-use Rattle.trees.specs.Rulings.{pick}
+use Rattle.trees.specs.Lists.{pick}
 use Rattle.counts.specs.Tallies.{stepsOf}
 use borrow.Author.Needs.{needs}
 use Rattle.counts.proofs.steps_of.Statement.{statement}

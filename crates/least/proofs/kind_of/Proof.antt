@@ -1,6 +1,6 @@
 -- `least::kind_of`. Assumes nothing.
 use borrow.Author.Tests.{eq-eqb, ne-eqb}
-use Rattle.trees.specs.Rulings.{pick}
+use Rattle.trees.specs.Lists.{pick}
 use Rattle.least.specs.Filling.{kindOf}
 use Rattle.least.proofs.kind_of.Statement.{statement}
 use Rattle.least.proofs.kind_of.Tie as tie

@@ -1,6 +1,6 @@
 -- `printing::letter_of`. Assumes nothing.
 use borrow.Author.Tests.{eq-eqb, ne-eqb}
-use Rattle.trees.specs.Rulings.{pick}
+use Rattle.trees.specs.Lists.{pick}
 use Rattle.printing.specs.Printing.{letter}
 use Rattle.printing.proofs.letter_of.Statement.{statement}
 use Rattle.printing.proofs.letter_of.Tie as tie

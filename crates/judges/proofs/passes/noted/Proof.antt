@@ -1,5 +1,5 @@
 -- `judges::passes::noted`. Assumes nothing.
-use Rattle.trees.specs.Rulings.{pick}
+use Rattle.trees.specs.Lists.{pick}
 use Rattle.judges.proofs.passes.noted.Statement.{statement}
 use Rattle.judges.proofs.passes.noted.Tie as tie
 

@@ -1,7 +1,7 @@
 -- `judges::shape::marked_at`. Assumes nothing.
 use lib.ListN.{getD}
 use borrow.Author.Tests.{eq-eqb, ne-eqb}
-use Rattle.trees.specs.Rulings.{pick}
+use Rattle.trees.specs.Lists.{pick}
 use Rattle.judges.specs.Searches.{markedCount}
 use borrow.Author.Needs.{needs}
 use Rattle.judges.proofs.shape.marked_at.Statement.{statement}

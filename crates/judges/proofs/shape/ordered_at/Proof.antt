@@ -1,7 +1,7 @@
 -- `judges::shape::ordered_at`. Assumes nothing.
 use native.Mathlib.Omega.{arith}
 use borrow.Author.Tests.{eq-eqb, ne-eqb}
-use Rattle.trees.specs.Rulings.{pick}
+use Rattle.trees.specs.Lists.{pick}
 use Rattle.trees.specs.Rules.{ordered}
 use Rattle.trees.proofs.Lines.{up-at}
 use borrow.Author.Needs.{needs}

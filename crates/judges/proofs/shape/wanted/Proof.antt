@@ -1,6 +1,6 @@
 -- `judges::shape::wanted`. Assumes nothing.
 use borrow.Author.Tests.{eq-eqb, ne-eqb}
-use Rattle.trees.specs.Rulings.{pick}
+use Rattle.trees.specs.Lists.{pick}
 use Rattle.judges.specs.Searches.{wantedCount}
 use Rattle.judges.proofs.shape.wanted.Statement.{statement}
 use Rattle.judges.proofs.shape.wanted.Tie as tie

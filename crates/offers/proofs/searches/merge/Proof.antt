@@ -1,6 +1,6 @@
 -- `offers::searches::merge`. Assumes nothing.
 use borrow.Author.Tests.{eq-eqb, ne-eqb}
-use Rattle.trees.specs.Rulings.{pick}
+use Rattle.trees.specs.Lists.{pick}
 use Rattle.trees.specs.Trees.{none}
 use Rattle.offers.specs.Sides.{unseen, merged}
 use Rattle.offers.proofs.searches.merge.Statement.{statement}

@@ -1,7 +1,7 @@
 -- `next` meets its contract: `after` takes the same test. Assumes nothing.
 use borrow.Author.Needs.{needs}
 use borrow.Author.Tests.{eq-eqb, ne-eqb}
-use Rattle.trees.specs.Rulings.{pick}
+use Rattle.trees.specs.Lists.{pick}
 use Rattle.words.specs.Words.{after}
 use Rattle.words.proofs.at.next.Statement.{statement}
 use Rattle.words.proofs.at.next.Tie as tie
