@@ -8,15 +8,20 @@ history command, and compares every printed number and every lent entry with
 what the reference answers.  It stops at the first few differences and prints
 each with the request, what was expected and what came.
 
+With --fresh the seed makes one half of each kind, always the same, and a seed
+that is drawn anew makes the other half.  Both are printed, and --fresh NUMBER
+takes a drawn seed again.
+
 At the end it prints how often each refusal number occurred.  The exit status
 is 0 if everything agreed, 1 after a difference, and 2 if nothing differed but
 --all-numbers was given and some number from 1 to 20 never occurred.
 
-To make a request again alone: the same --seed, --requests 1 --first INDEX.
+With each difference it prints how to make that request or text again alone.
 """
 
 import argparse
 import os
+import random
 import shlex
 import subprocess
 import sys
@@ -39,8 +44,13 @@ ALL_NUMBERS = range(1, 21)
 # What one worker does at a time: a maker from MAKERS, and which of its things.
 Task = namedtuple("Task", "maker command seed first count timeout")
 
-# A difference: what was asked, what was expected and what came, as text.
-Difference = namedtuple("Difference", "title asked expected came")
+# What a maker's task is done by: the work, the function that makes one thing,
+# how many of them a task has, and the words that make one alone.
+Maker = namedtuple("Maker", "work make in_task alone")
+
+# A difference: how to make what was asked again, and what was asked, what was
+# expected and what came, as text.
+Difference = namedtuple("Difference", "title again asked expected came")
 
 # What a program did: its standard output, and words on an unusual end.
 Outcome = namedtuple("Outcome", "output trouble")
@@ -96,10 +106,10 @@ def run_program(command, data, timeout):
 # Requests
 
 
-def prepared_requests(maker, seed, first, count):
+def prepared_requests(task):
     """The requests of a task with their texts and expected answers."""
-    for index in range(first, first + count):
-        request = maker(seed, index)
+    for index in range(task.first, task.first + task.count):
+        request = MAKERS[task.maker].make(task.seed, index)
         yield Prepared(index, request, protocol.request_text(request),
                        protocol.answer_to(request))
 
@@ -124,15 +134,23 @@ def lines_of(output):
     return lines + [last + "(no line feed)"] if last else lines
 
 
-def request_difference(title, one, expected, came, trouble):
+def again(task, index):
+    """The command that makes one thing of a task again, alone."""
+    return "python3 %s %s --seed %s --first %d" % (
+        os.path.relpath(__file__),
+        MAKERS[task.maker].alone % shlex.quote(task.command),
+        shlex.quote(task.seed), index)
+
+
+def request_difference(title, task, one, expected, came, trouble):
     """What is printed about a request whose answer differs."""
     shown = [trouble] if trouble else []
     return Difference("%s %d, code %d" % (title, one.index, one.request.code),
-                      one.text, "\n".join(expected),
+                      again(task, one.index), one.text, "\n".join(expected),
                       "\n".join(came + shown) or "(nothing)")
 
 
-def compare_run(title, run, outcome, report):
+def compare_run(task, run, outcome, report):
     """Compares the lines of one run, up to its first difference."""
     lines = lines_of(outcome.output)
     at = 0
@@ -141,24 +159,23 @@ def compare_run(title, run, outcome, report):
         came = lines[at:at + len(expected)]
         if came != expected:
             report.differences.append(request_difference(
-                title, one, expected, came, outcome.trouble))
+                task.maker, task, one, expected, came, outcome.trouble))
             return
         at += len(expected)
         report.note(one.answer.refusal, "code %d" % one.request.code)
     if at != len(lines) or outcome.trouble:
         report.differences.append(request_difference(
-            "after " + title, run[-1], ["(the end of the run)"],
+            "after " + task.maker, task, run[-1], ["(the end of the run)"],
             lines[at:], outcome.trouble))
 
 
-def do_requests(title, maker, task):
+def do_requests(task):
     """One task of requests."""
     report = Report()
-    prepared = prepared_requests(maker, task.seed, task.first, task.count)
-    for run in packed(prepared):
+    for run in packed(prepared_requests(task)):
         data = "".join(one.text for one in run).encode("ascii")
         outcome = run_program(task.command, data, task.timeout)
-        compare_run(title, run, outcome, report)
+        compare_run(task, run, outcome, report)
         if report.differences:
             break
     return report
@@ -172,32 +189,33 @@ def refusal_printed(output):
     return int(output.split()[1]) if output.startswith(b"refused ") else 0
 
 
-def text_difference(title, index, text, expected, outcome):
+def text_difference(task, index, text, expected, outcome):
     """What is printed about a text whose answer differs."""
     came = outcome.output.decode("latin-1")
     if outcome.trouble:
         came += "\n" + outcome.trouble
-    return Difference("%s %d, as a Python literal" % (title, index),
-                      repr(text), expected.decode("latin-1"),
-                      came or "(nothing)")
+    return Difference("%s %d, as a Python literal" % (task.maker, index),
+                      again(task, index), repr(text),
+                      expected.decode("latin-1"), came or "(nothing)")
 
 
-def compare_text(title, index, text, task, report):
+def compare_text(task, index, report):
     """Runs the program on one text and compares what it prints."""
+    text = MAKERS[task.maker].make(task.seed, index)
     expected = reference.history_program(text)
     outcome = run_program(task.command, text, task.timeout)
     if outcome.output != expected or outcome.trouble:
         report.differences.append(
-            text_difference(title, index, text, expected, outcome))
+            text_difference(task, index, text, expected, outcome))
         return
     report.note(refusal_printed(expected), "history")
 
 
-def do_texts(title, maker, task):
+def do_texts(task):
     """One task of texts."""
     report = Report()
     for index in range(task.first, task.first + task.count):
-        compare_text(title, index, maker(task.seed, index), task, report)
+        compare_text(task, index, report)
         if report.differences:
             break
     return report
@@ -206,26 +224,36 @@ def do_texts(title, maker, task):
 # Tasks
 
 MAKERS = {
-    "request": (do_requests, generate.request, REQUESTS_IN_TASK),
-    "large request": (do_requests, generate.large_request, LARGE_IN_TASK),
-    "text": (do_texts, generate.text, TEXTS_IN_TASK),
-    "large text": (do_texts, generate.large_text, LARGE_IN_TASK),
+    "request": Maker(do_requests, generate.request, REQUESTS_IN_TASK,
+                     "--replay %s --requests 1"),
+    "large request": Maker(do_requests, generate.large_request, LARGE_IN_TASK,
+                           "--replay %s --requests 0 --large 1"),
+    "text": Maker(do_texts, generate.text, TEXTS_IN_TASK,
+                  "--history %s --texts 1"),
+    "large text": Maker(do_texts, generate.large_text, LARGE_IN_TASK,
+                        "--history %s --texts 0 --large 1"),
 }
 
 
 def do_task(task):
     """What a worker process does with one task."""
-    work, maker, _ = MAKERS[task.maker]
-    return task, work(task.maker, maker, task)
+    return task, MAKERS[task.maker].work(task)
+
+
+def seeds_of(arguments, total):
+    """Each seed, with how many of so many things it makes."""
+    fresh = total // 2 if arguments.fresh else 0
+    return [(arguments.seed, total - fresh), (arguments.fresh, fresh)]
 
 
 def cut_into_tasks(maker, command, arguments, total):
     """Tasks for so many things of one kind."""
-    size = MAKERS[maker][2]
-    end = arguments.first + total
-    return [Task(maker, command, arguments.seed, start,
-                 min(size, end - start), arguments.timeout)
-            for start in range(arguments.first, end, size)]
+    size = MAKERS[maker].in_task
+    return [Task(maker, command, seed, start,
+                 min(size, arguments.first + share - start),
+                 arguments.timeout)
+            for seed, share in seeds_of(arguments, total)
+            for start in range(arguments.first, arguments.first + share, size)]
 
 
 def all_tasks(arguments):
@@ -293,6 +321,17 @@ def run_all(tasks, arguments):
 # What is printed
 
 
+def print_seeds(arguments):
+    """From which seeds everything is made, before it is."""
+    print("seed %s" % arguments.seed, end="")
+    if arguments.fresh:
+        print(" makes one half and seed %s the other; to make the same again: "
+              "--seed %s --fresh %s" % (
+                  arguments.fresh, shlex.quote(arguments.seed),
+                  shlex.quote(arguments.fresh)), end="")
+    print(flush=True)
+
+
 def shortened(text, folder, name):
     """The text, or where the whole of it was saved if it is long."""
     if len(text) <= LONGEST_SHOWN:
@@ -330,6 +369,7 @@ def where_to_look(difference):
 def print_difference(number, difference, folder):
     """Prints one difference, long parts saved in the folder."""
     print("difference %d: %s" % (number, difference.title))
+    print("again: %s" % difference.again)
     print("first difference: %s" % where_to_look(difference))
     for part in ("asked", "expected", "came"):
         name = "%d-%s.txt" % (number, part)
@@ -365,6 +405,11 @@ def print_summary(totals, seconds):
     print("differences: %d" % len(totals.differences))
 
 
+def drawn_seed():
+    """A seed that nobody chose."""
+    return str(random.SystemRandom().randrange(1, 10 ** 9))
+
+
 def parse_arguments(given=None):
     parser = argparse.ArgumentParser(
         description=__doc__, formatter_class=argparse.RawTextHelpFormatter)
@@ -377,6 +422,10 @@ def parse_arguments(given=None):
     parser.add_argument("--large", type=int, default=0, metavar="K",
                         help="so many requests and texts of 2,047 nodes more")
     parser.add_argument("--seed", default="1", metavar="S")
+    parser.add_argument("--fresh", nargs="?", const=drawn_seed(),
+                        metavar="NUMBER",
+                        help="make half of each kind from another seed: a new "
+                        "one, or NUMBER")
     parser.add_argument("--first", type=int, default=0, metavar="INDEX",
                         help="the index to begin with")
     parser.add_argument("--workers", type=int, default=2)
@@ -406,6 +455,7 @@ def exit_status(totals, arguments):
 def main(given=None):
     arguments = parse_arguments(given)
     start = time.time()
+    print_seeds(arguments)
     totals = run_all(all_tasks(arguments), arguments)
     print_differences(totals.differences, arguments.differences)
     print_occurrences(totals)

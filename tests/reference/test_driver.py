@@ -11,6 +11,7 @@ import contextlib
 import io
 import os
 import random
+import re
 import shlex
 import sys
 import unittest
@@ -193,6 +194,42 @@ class Requests(unittest.TestCase):
                 list(protocol.requests_in(text))
 
 
+class Seeds(unittest.TestCase):
+    """Which requests and texts the seeds make."""
+
+    def made(self, *words):
+        """The kind, seed and index of everything that is asked for."""
+        arguments = drive.parse_arguments(
+            ["--replay", "r", "--history", "h", "--requests", "901",
+             "--texts", "50", "--large", "5", *words])
+        return [(task.maker, task.seed, index)
+                for task in drive.all_tasks(arguments)
+                for index in range(task.first, task.first + task.count)]
+
+    def test_one_seed(self):
+        made = self.made("--seed", "1")
+        self.assertEqual(Counter(kind for kind, _, _ in made), {
+            "request": 901, "large request": 5, "text": 50, "large text": 5})
+        self.assertEqual({seed for _, seed, _ in made}, {"1"})
+
+    def test_the_fixed_half_is_the_first_of_the_old(self):
+        old = self.made("--seed", "1")
+        made = self.made("--seed", "1", "--fresh", "77")
+        for kind, fixed, fresh in (("request", 451, 450), ("text", 25, 25),
+                                   ("large request", 3, 2),
+                                   ("large text", 3, 2)):
+            ours = [one for one in made if one[0] == kind]
+            self.assertEqual(
+                ours[:fixed], [one for one in old if one[0] == kind][:fixed])
+            self.assertEqual(
+                ours[fixed:], [(kind, "77", index) for index in range(fresh)])
+
+    def test_fresh_seeds_differ(self):
+        drawn = {drive.parse_arguments(["--replay", "r", "--fresh"]).fresh
+                 for _ in range(20)}
+        self.assertGreater(len(drawn), 15)
+
+
 class Driving(unittest.TestCase):
     """The driver with the stand-in."""
 
@@ -223,6 +260,35 @@ class Driving(unittest.TestCase):
             "--history", FAKE + " --history --spoil 1", "--texts", "2")
         self.assertEqual(status, 1)
         self.assertIn("difference 1: text 0", printed)
+
+    def test_fresh_seed_is_printed(self):
+        words = ["--replay", FAKE, "--requests", "6", "--fresh"]
+        status, printed = self.drive(*words)
+        self.assertEqual(status, 0, printed)
+        seed = re.match(r"seed 1 makes one half and seed (\d+) the other; to "
+                        r"make the same again: --seed 1 --fresh \1\n",
+                        printed).group(1)
+        _, again = self.drive(*words, seed)
+        self.assertEqual(again.split("\n")[0], printed.split("\n")[0])
+
+    def test_differences_can_be_made_again(self):
+        for words in (["--replay", FAKE + " --spoil 1"],
+                      ["--history", FAKE + " --history --spoil 1"]):
+            for large in ("0", "1"):
+                status, printed = self.drive(
+                    *words, "--requests", "2", "--texts", "2", "--large",
+                    large, "--fresh", "77", "--differences", "9")
+                self.assertEqual(status, 1)
+                commands = re.findall(r"^again: python3 \S*drive.py (.*)$",
+                                      printed, re.MULTILINE)
+                self.assertEqual(len(commands), 2 + int(large))
+                self.assertIn("--seed 77 --first 0", "\n".join(commands))
+                for command in commands:
+                    status, alone = self.drive(*shlex.split(command))
+                    self.assertEqual(status, 1, command)
+                    self.assertEqual(alone.count("difference 1: "), 1)
+                    self.assertIn("again: python3", alone)
+                    self.assertIn(command, alone)
 
     def test_missing_numbers(self):
         status, printed = self.drive(
