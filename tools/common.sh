@@ -10,8 +10,14 @@
 built=$root/target/built
 machine=$(uname -m)
 
+# The kit is on the PATH, or in its folder where the PATH is as short as cron's.
+command -v rt >/dev/null || PATH=$PATH:${RATTLE_HOME:-/opt/rattle}/bin
+has_kit() { command -v rt >/dev/null; }
+
+say() { printf '%s: %s\n' "${0##*/}" "$*" >&2; }
+
 fail() {
-    printf '%s: %s\n' "${0##*/}" "$*" >&2
+    say "$@"
     exit 3
 }
 
@@ -26,26 +32,46 @@ is_current() { # PRODUCT SOURCES: names without spaces, below the root
     [ -z "$(cd "$root" && find $2 -newer "$stamp" -print | head -n 1)" ]
 }
 
-# Builds a product; what the builder says is shown only if it fails.
+# Shows what a builder announces, and each crate that rt has proved, as it comes.
+show_progress() {
+    while IFS= read -r line; do
+        case $line in
+        'announced: '*) say "${line#announced: }" ;;
+        'rt: '*' proved ('*' s)') say "${line#rt: }" ;;
+        esac
+    done
+}
+
+# Builds a product; all that the builder says is shown only if it fails.
 build() { # PRODUCT COMMAND..
     product=$1
     base=$built/${1##*/}
     shift
-    [ ! -t 2 ] || printf '%s: building %s\n' "${0##*/}" "$product" >&2
+    rm -f "$base.ended"
     : >"$base.begun"
-    if ! (cd "$root" && "$@") </dev/null >"$base.log" 2>&1 || [ ! -e "$root/$product" ]; then
+    { (cd "$root" && "$@") </dev/null 2>&1 && mv "$base.begun" "$base.ended"; } \
+        | tee "$base.log" | show_progress
+    if [ ! -e "$base.ended" ] || [ ! -e "$root/$product" ]; then
         cat "$base.log" >&2
         fail "$product could not be built"
     fi
-    mv "$base.begun" "$base.stamp"
+    mv "$base.ended" "$base.stamp"
+}
+
+take_turn() {
+    command -v flock >/dev/null || return 0
+    flock -n 9 && return
+    say "another run is building: waiting for it"
+    flock 9
 }
 
 # Builds a product unless it is current.  Runs at the same time take turns.
 ensure() { # PRODUCT SOURCES COMMAND..
     ! is_current "$1" "$2" || return 0
     mkdir -p "$built" || fail "no folder $built"
+    [ -w "$built" ] || fail "nothing can be built: $built can't be written to"
     (
-        if command -v flock >/dev/null; then flock 9; fi
+        take_turn
         is_current "$1" "$2" && exit
         product=$1
         shift 2
@@ -53,26 +79,54 @@ ensure() { # PRODUCT SOURCES COMMAND..
     ) 9>"$built/lock" || exit 3
 }
 
-need_rt() {
-    command -v rt >/dev/null || fail "rt is not on the PATH: the Rattle kit is needed to build"
+# Without a kit, a program that was built before has to do.
+use_old() { # PROGRAM
+    no_kit='no Rattle kit (rt is neither on the PATH nor in /opt/rattle/bin)'
+    if [ ! -e "$root/$1" ]; then
+        say "$no_kit, and $1 was not built before"
+        exit 4
+    fi
+    newer='are newer'
+    [ -e "$built/${1##*/}.stamp" ] || newer='may be newer'
+    say "$no_kit: running $1 as it is, though the sources $newer"
+}
+
+# Minutes are those of two cores, from nothing.
+announce() { # MINUTES
+    if [ -d target/stamp ]; then
+        echo "announced: proving and building what is not proved yet of Panheron: up to $1 minutes"
+    else
+        echo "announced: proving and building Panheron: about $1 minutes, once"
+    fi
 }
 
 # rt does not link a program again that it has proved before.
-prove_program() { # NAME
+prove_program() { # NAME MINUTES
     [ -e "target/bin/$1" ] || rm -f "target/stamp/$1"
-    need_rt
+    announce "$2"
     rt check "$1"
 }
 
 prove_archive() {
-    need_rt
+    announce 4
     rt staticlib collector
 }
 
+crates='crates crates.txt'
 archive=target/staticlib/libcollector.a
 
-ensure_program() { ensure "target/bin/$1" "crates crates.txt" prove_program "$1"; } # NAME
-ensure_archive() { ensure "$archive" "crates crates.txt" prove_archive; }
+ensure_program() { # NAME MINUTES
+    if has_kit; then
+        ensure "target/bin/$1" "$crates" prove_program "$@"
+    elif ! is_current "target/bin/$1" "$crates"; then
+        use_old "target/bin/$1"
+    fi
+}
+
+ensure_archive() {
+    has_kit || is_current "$archive" "$crates" || fail "no Rattle kit to build $archive with"
+    ensure "$archive" "$crates" prove_archive
+}
 
 # ---- C for x86-64
 
@@ -104,8 +158,13 @@ compile() { # OUTPUT WORDS..
 compile_rackcheck() { compile target/built/rackcheck collector/rackcheck.c "$archive"; }
 
 ensure_rackcheck() {
+    if ! has_kit && ! is_current "$archive" "$crates"; then
+        use_old target/built/rackcheck
+        return
+    fi
+    # rather no compiler now than after minutes of proving
+    [ -e "$built/rackcheck" ] || find_compiler
     ensure_archive
-    # only a compiler that is needed has to be there
     is_current target/built/rackcheck "collector include $archive" || find_compiler
     ensure target/built/rackcheck "collector include $archive" compile_rackcheck
 }
@@ -115,7 +174,7 @@ ensure_rackcheck() {
 # Sets `tools` to the kit's folder for this machine, if there is a kit.
 find_kit() {
     home=${RATTLE_HOME:-}
-    if [ -z "$home" ] && command -v rt >/dev/null; then
+    if [ -z "$home" ] && has_kit; then
         home=$(dirname "$(dirname "$(readlink -f "$(command -v rt)")")")
     fi
     tools=$home/on/$machine/toolchain
