@@ -21,6 +21,20 @@ fail() {
     exit 3
 }
 
+# What --help says of a program's building, and the exit statuses that come of it.
+help_on_building() { # MINUTES
+    cat <<END
+
+The program is proved and built before its first run, in about $1 minutes, and
+again after a change of its sources.  That needs the Rattle kit, on the PATH or
+in /opt/rattle/bin.  Where there is none, a program built before is run as it is.
+
+More exit statuses: 3 the program could not be built, or nothing here can run
+it; 4 there is neither the kit nor a program built before; above 128 a signal
+ended the program.
+END
+}
+
 # ---- building
 
 # Whether a product is there and no source changed since its building began.
