@@ -21,6 +21,17 @@ fail() {
     exit 3
 }
 
+# Answers --help by the script's `help`.  A reader that had enough, as `head`
+# has, is no error.
+show_help() { # STATUS: if it can't be written
+    help
+    case $? in
+    0 | 141) exit 0 ;;
+    esac
+    say "the help can't be written"
+    exit "$1"
+}
+
 # What --help says of a program's building, and the exit statuses that come of it.
 help_on_building() { # MINUTES
     cat <<END

@@ -7,18 +7,12 @@
 # shellcheck shell=bash
 # shellcheck disable=SC2154 # root and usage are set by the script
 
-unwritten() {
-    say "the output can't be written"
-    exit 5
-}
+unwritten=5 # the exit status if the output can't be written
 
 # Answers --help, and all other arguments by the usage line.
 read_arguments() { # ARGUMENTS..
     [ $# -gt 0 ] || return 0
-    if [ "$*" = --help ]; then
-        help || unwritten
-        exit 0
-    fi
+    [ "$*" != --help ] || show_help "$unwritten"
     printf '%s\n' "$usage" >&2
     exit 2
 }
@@ -31,6 +25,7 @@ run_filter() { # NAME WHAT-IT-READS
     case ${ended[1]} in
     0) exit "${ended[0]}" ;;
     141) exit 141 ;; # the reader had enough, as `head` has
-    *) unwritten ;;
     esac
+    say "the output can't be written"
+    exit "$unwritten"
 }

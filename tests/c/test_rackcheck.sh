@@ -3,13 +3,19 @@
 #
 #   tests/c/test_rackcheck.sh [COMMAND..]
 #
-# COMMAND runs rackcheck; without one it is bin/rackcheck.  The images and the
-# reports expected for them are made by rack_folder.py from the Python
-# reference; all else that is expected is typed in here.  Whole outputs and
-# exit statuses are compared.  Prints `N passed, M failed`.
+# COMMAND runs rackcheck, which has to be built; without one it is built and run
+# as bin/rackcheck.  The images and the reports expected for them are made by
+# rack_folder.py from the Python reference; all else that is expected is typed in
+# here.  Whole outputs and exit statuses are compared.  Prints `N passed, M
+# failed`.
 set -u
 here=$(dirname "$(readlink -f "$0")")
-[ $# -gt 0 ] || set -- "$here/../../bin/rackcheck"
+if [ $# -eq 0 ]; then
+    root=$(dirname "$(dirname "$here")")
+    . "$root/tools/common.sh"
+    ensure_rackcheck
+    set -- "$root/bin/rackcheck"
+fi
 
 work=$(mktemp -d) || exit 2
 trap 'rm -rf "$work"' EXIT

@@ -20,7 +20,7 @@ import unittest
 
 ROOT = os.path.dirname(os.path.dirname(os.path.dirname(
     os.path.abspath(__file__))))
-COPIED = ("bin", "tools", "collector", "include", "examples")
+COPIED = ("bin", "tools", "collector", "include")
 COMMANDS = ("bash", "cat", "chmod", "dirname", "env", "find", "flock", "head",
             "mkdir", "mv", "readlink", "rm", "sed", "sh", "sleep", "tee")
 NO_KIT = "no Rattle kit (rt is neither on the PATH nor in /opt/rattle/bin)"
@@ -178,6 +178,15 @@ class Usage(Case):
             with open("/dev/full", "w", encoding="utf-8") as full:
                 run = self.run_script(name, "--help", stdout=full)
             self.assertEqual(run.returncode, status, run.stderr)
+
+    def test_help_of_which_one_line_is_read(self):
+        for name in ("history", "replay", "rackcheck"):
+            with subprocess.Popen(
+                    [self.path("bin/" + name), "--help"],
+                    env=self.environment(), stdout=subprocess.PIPE,
+                    stderr=subprocess.PIPE) as run:
+                run.stdout.close()
+                self.assertEqual((run.wait(60), run.stderr.read()), (0, b""))
 
     def test_arguments(self):
         for name, what in (("history", "TEXT"), ("replay", "REQUESTS")):
