@@ -14,6 +14,7 @@ import random
 import re
 import shlex
 import sys
+import tempfile
 import unittest
 from collections import Counter
 
@@ -232,6 +233,13 @@ class Seeds(unittest.TestCase):
 
 class Driving(unittest.TestCase):
     """The driver with the stand-in."""
+
+    def setUp(self):
+        """What the driver saves of long differences goes with the test."""
+        folder = tempfile.TemporaryDirectory()
+        self.addCleanup(folder.cleanup)
+        self.addCleanup(setattr, tempfile, "tempdir", tempfile.tempdir)
+        tempfile.tempdir = folder.name
 
     def drive(self, *arguments):
         """The exit status and what was printed."""

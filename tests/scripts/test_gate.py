@@ -34,8 +34,8 @@ the dearest of 19 parts, in seconds by the clock, with others beside them:
     25  tests/reference/drive.py
 """
 
-# `rt ci` runs work.py, as a grandchild of the gate, prints ci.txt and ends with
-# the status in ci.status; `rt fmt --check` prints fmt.txt.
+# `rt ci` runs work.py, as a grandchild of the gate, prints ci.txt and ends
+# with the status in ci.status; `rt fmt --check` prints fmt.txt.
 RT = """\
 #!/bin/sh
 case $1 in

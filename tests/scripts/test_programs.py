@@ -26,7 +26,7 @@ COMMANDS = ("bash", "cat", "chmod", "dirname", "env", "find", "flock", "head",
 NO_KIT = "no Rattle kit (rt is neither on the PATH nor in /opt/rattle/bin)"
 
 # A kit that proves two crates and builds the program in the file `program`; it
-# notes each call in `calls`, and fails or waits if there is a file that says so.
+# notes each call in `calls`, and fails or waits if a file says so.
 RT = """\
 #!/bin/sh
 echo "$*" >>calls
@@ -313,7 +313,7 @@ class Building(Case):
 
 
 class WithoutKit(Case):
-    """A program that was built while there was a kit, and now there is none."""
+    """A program was built while there was a kit, and now there is none."""
 
     def test_current_program(self):
         for name in self.filters:
@@ -330,7 +330,8 @@ class WithoutKit(Case):
         self.run_script("rackcheck", "a", "b", "c")
         self.remove_kit()
         self.change_sources()
-        said = "%s: %s: running target/%s as it is, though the sources are newer"
+        said = ("%s: %s: running target/%s as it is, though the sources are "
+                "newer")
         for name in self.filters:
             self.expect(self.run_script(name, text="1\n"), 0, "1\n",
                         [said % (name, NO_KIT, "bin/" + name)])
