@@ -12,7 +12,7 @@ use borrow.Author.Tests.{eq-eqb}
 use Rattle.trees.proofs.Bools.{true-T}
 use Rattle.blocks.specs.Halves.{Under, halves, joined, bytesOf, wordsOf}
 use Rattle.blocks.specs.Blocks.{run, word, start, sums, check, block, blocks, part, checked, numbered, inside, contents}
-use Rattle.blocks.proofs.Halves.{under-drop, under-take, under-append, under-joined, length-halves, length-joined, joined-halves, halves-joined}
+use Rattle.blocks.proofs.Halves.{under-drop, under-take, under-append, under-joined, length-halves, length-joined, joined-halves, halves-joined, length-run}
 use Rattle.blocks.proofs.Sums.{checked-says, says-checked}
 
 -- ---- one block
@@ -54,7 +54,7 @@ inside-block k w h =
 
 pub length-part : (s : List ℕ) (k : ℕ) → 512 * k + 512 ≤ length s → length (part s k) ≡ 512
 unfolding part
-length-part s k h = length-take-le 512 (drop (512 * k) s) (rw length-drop (omega arith))
+length-part s k h = length-run (512 * k) 512 s h
 
 pub under-part : (m : ℕ) (s : List ℕ) (k : ℕ) → Under m s → Under m (part s k)
 unfolding part
@@ -90,7 +90,7 @@ part-last s b k h e = rw (drop-at s b (512 * k) h) (take-all 512 b (omega arith)
 
 pub length-inside : (b : List ℕ) → length b ≡ 512 → length (inside b) ≡ 253
 unfolding inside
-length-inside b h = length-joined 256 253 _ (length-take-le 506 (drop 2 b) (rw length-drop (omega arith)))
+length-inside b h = length-joined 256 253 _ (length-run 2 506 b (omega arith))
 
 pub length-contents : (n : ℕ) (s : List ℕ) → 512 * n ≤ length s → length (contents n s) ≡ 253 * n
 unfolding contents
@@ -113,14 +113,11 @@ contents-append (suc n) s t h = rw (part-append s t n (omega arith), contents-ap
 
 -- ---- written and read back
 
-piece : (l : List ℕ) (k : ℕ) → 253 * suc k ≤ length l → length (run (253 * k) 253 l) ≡ 253
-piece l k h = length-take-le 253 (drop (253 * k) l) (rw length-drop (omega arith))
-
 pub length-blocks : (n : ℕ) (l : List ℕ) → 253 * n ≤ length l → length (blocks n l) ≡ 512 * n
 unfolding blocks
 length-blocks zero l h = refl
 length-blocks (suc n) l h =
-    length-append (blocks n l) _ ∙ omega (arith, length-blocks n l (omega arith), length-block n (run (253 * n) 253 l) (piece l n h))
+    length-append (blocks n l) _ ∙ omega (arith, length-blocks n l (omega arith), length-block n (run (253 * n) 253 l) (length-run (253 * n) 253 l (omega arith)))
 
 -- each part of the image is the block of its words
 pub part-blocks : (n k : ℕ) (l : List ℕ) → 253 * n ≤ length l → k < n → part (blocks n l) k ≡ block k (run (253 * k) 253 l)
@@ -128,7 +125,7 @@ unfolding blocks
 part-blocks zero k l h b = absurd (omega arith)
 part-blocks (suc n) k l h b =
     elim (ℕ-discrete k n) [
-      | yes e ↦ rw e (part-last (blocks n l) (block n (run (253 * n) 253 l)) n (length-blocks n l (omega arith)) (length-block n _ (piece l n h)))
+      | yes e ↦ rw e (part-last (blocks n l) (block n (run (253 * n) 253 l)) n (length-blocks n l (omega arith)) (length-block n _ (length-run (253 * n) 253 l (omega arith))))
       | no e ↦ part-append (blocks n l) _ k (omega (arith, length-blocks n l (omega arith))) ∙ part-blocks n k l (omega arith) (omega arith)
     ]
 
@@ -140,7 +137,7 @@ contents-blocks (suc n) l h =
     let w = run (253 * n) 253 l in
     let d : length (blocks n l) ≡ 512 * n = length-blocks n l (omega arith) in
     let e : contents n (blocks n l ++ block n w) ≡ take (253 * n) l = contents-append n (blocks n l) (block n w) (omega arith) ∙ contents-blocks n l (omega arith) in
-    let f : inside (part (blocks n l ++ block n w) n) ≡ w = ap inside (part-last (blocks n l) (block n w) n d (length-block n w (piece l n h))) ∙ inside-block n w (piece l n h) in
+    let f : inside (part (blocks n l ++ block n w) n) ≡ w = ap inside (part-last (blocks n l) (block n w) n d (length-block n w (length-run (253 * n) 253 l (omega arith)))) ∙ inside-block n w (length-run (253 * n) 253 l (omega arith)) in
     let z : 253 * suc n ≡ 253 * n + 253 = omega arith in
     rw (e, f, z) (sym (take-add (253 * n) 253 l))
 

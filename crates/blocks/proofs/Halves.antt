@@ -1,12 +1,13 @@
--- Numbers and their halves, at any base: what is split is joined again, and the other way round. Assumes nothing.
-use Prim.Native.Nat.{ℕ, zero, suc, _+_, _*_, _/_, _%_, _<_}
+-- Numbers and their halves, at any base: what is split is joined again, and the other way round. And how long a run is. Assumes nothing.
+use Prim.Native.Nat.{ℕ, zero, suc, _+_, _*_, _/_, _%_, _<_, _≤_}
 use native.Mathlib.Omega.{arith}
 use native.Mathlib.Nat.{mul-le-mul-left, mod-add-div, mod-eq-of-lt, div-eq-of-lt, add-mul-mod-self-left, add-mul-div-left, zero-add}
 use mathlib.Core.Path.{_≡_, refl, ap, ap₂, _∙_}
 use mathlib.Core.List.{List, [], _∷_, _++_}
-use lib.ListN.{length, getD, take, drop, replicate}
-use lib.Seq.{getD-drop}
+use lib.ListN.{length, getD, take, drop, length-drop}
+use lib.Seq.{length-take-le, getD-drop}
 use Rattle.blocks.specs.Halves.{Under, halves, joined}
+use Rattle.blocks.specs.Blocks.{run}
 
 -- ---- every entry below m
 
@@ -23,11 +24,6 @@ pub under-append : (m : ℕ) (a b : List ℕ) → Under m a → Under m b → Un
 under-append m [] b h k i = k i
 under-append m (x ∷ a) b h k zero = h 0
 under-append m (x ∷ a) b h k (suc i) = under-append m a b (λ j. h (suc j)) k i
-
-pub under-zeros : (m n : ℕ) → 0 < m → Under m (replicate n 0)
-under-zeros m zero h i = h
-under-zeros m (suc n) h zero = h
-under-zeros m (suc n) h (suc i) = under-zeros m n h i
 
 square : (b x y : ℕ) → x < b → y < b → x + b * y < b * b
 square b x y h k = omega (arith, mul-le-mul-left b k)
@@ -92,3 +88,8 @@ pub halves-append : (b : ℕ) (l m : List ℕ) → halves b (l ++ m) ≡ halves 
 unfolding halves
 halves-append b [] m = refl
 halves-append b (x ∷ l) m = ap (λ k. (x % b) ∷ (x / b) ∷ k) (halves-append b l m)
+
+-- ---- runs
+
+pub length-run : (i k : ℕ) (l : List ℕ) → i + k ≤ length l → length (run i k l) ≡ k
+length-run i k l h = length-take-le k (drop i l) (rw length-drop (omega arith))

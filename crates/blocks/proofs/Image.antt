@@ -6,7 +6,7 @@ use mathlib.Core.Logic.{_≢_}
 use mathlib.Core.Bool.{false, _&&_}
 use mathlib.Core.List.{List, [], _∷_, _++_}
 use lib.ListN.{length, getD, take, drop, set, replicate, length-append, length-replicate, length-set, length-drop, take-append-drop}
-use lib.Seq.{take-all, take-at, drop-at, length-take-le, drop-set-add, take-set-lt, take-set-le}
+use lib.Seq.{take-all, drop-at, length-take-le, drop-set-add, take-set-lt, take-set-le}
 use lib.Dec.{T, eqb, leb, eqb→eq, leb→le}
 use borrow.Author.Tests.{eq-eqb, le-leb}
 use Rattle.trees.specs.Lists.{all}
@@ -18,6 +18,7 @@ use Rattle.blocks.specs.Blocks.{run, block, part, checked, numbered, cou
 use Rattle.blocks.specs.Image.{fewest, filled, imageOf, blank, sized, blockRules}
 use Rattle.blocks.proofs.Sums.{checked-set}
 use Rattle.blocks.proofs.Blocks.{length-part, under-part, getD-part, length-contents, length-blocks, contents-blocks, part-blocks, blocks-contents, checked-block, numbered-block}
+use Rattle.blocks.proofs.Halves.{length-run}
 
 -- ---- the fewest blocks
 
@@ -35,10 +36,6 @@ fewest-least c n h = omega arith
 pub length-filled : (w : List ℕ) → length (filled w) ≡ 253 * fewest (length w)
 unfolding filled
 length-filled w = length-append w _ ∙ omega (arith, length-replicate {A = ℕ} (253 * fewest (length w) - length w) 0, fewest-holds (length w))
-
-pub take-filled : (w : List ℕ) → take (length w) (filled w) ≡ w
-unfolding filled
-take-filled w = take-at w _ (length w) refl
 
 blank-zeros : (n : ℕ) → T (blank (replicate n 0))
 unfolding blank all
@@ -70,7 +67,7 @@ pub record Intact (limit : ℕ) (s : List ℕ) : Type 0 where
   pub checks : (k : ℕ) → k < count s → T (checked (part s k))
   pub numbers : (k : ℕ) → k < count s → T (numbered k (part s k))
 
-sized-says : (limit : ℕ) (s : List ℕ) → T (sized limit s) → (1 ≤ count s) × (count s ≤ limit) × (length s ≡ 512 * count s)
+pub sized-says : (limit : ℕ) (s : List ℕ) → T (sized limit s) → (1 ≤ count s) × (count s ≤ limit) × (length s ≡ 512 * count s)
 unfolding sized
 sized-says limit s t =
     let r = and-right (leb 1 (length s)) (eqb (length s % 512) 0 && leb (count s) limit) t in
@@ -110,9 +107,6 @@ module _ (w : List ℕ) where
   unfolding imageOf
   part-image k h = part-blocks (fewest (length w)) k (filled w) (omega (arith, length-filled w)) h
 
-  piece : (k : ℕ) → k < fewest (length w) → length (run (253 * k) 253 (filled w)) ≡ 253
-  piece k h = length-take-le 253 (drop (253 * k) (filled w)) (rw (length-drop, length-filled w) (omega arith))
-
   -- an image passes 13, 14 and 15 wherever its blocks are within the limit
   pub image-intact : (limit : ℕ) → 1 ≤ length w → fewest (length w) ≤ limit → Intact limit (imageOf w)
   image-intact limit h k =
@@ -120,7 +114,7 @@ module _ (w : List ℕ) where
         some = rw count-image (omega (arith, fewest-holds (length w)));
         few = rw count-image k;
         all = rw count-image length-image;
-        checks = λ j b. let l = rw count-image at b in rw (part-image j l) (checked-block j _ (piece j l));
+        checks = λ j b. let l = rw count-image at b in rw (part-image j l) (checked-block j _ (length-run (253 * j) 253 (filled w) (omega (arith, length-filled w, l))));
         numbers = λ j b. rw (part-image j (rw count-image at b)) (numbered-block j _);
       }
 

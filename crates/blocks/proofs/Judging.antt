@@ -1,8 +1,8 @@
 -- What 13, 14 and 15 answer, test by test as code makes them. Assumes nothing.
 use Prim.Native.Nat.{ℕ, _%_, _<_, _≤_}
 use native.Mathlib.Omega.{arith}
-use mathlib.Core.Path.{_≡_, refl}
-use mathlib.Core.Bool.{Bool, true, false, _&&_}
+use mathlib.Core.Path.{_≡_}
+use mathlib.Core.Bool.{true, false}
 use mathlib.Core.List.{List}
 use lib.ListN.{length}
 use lib.Dec.{eqb, leb}
@@ -11,10 +11,7 @@ use Rattle.trees.specs.Lists.{lowest, pick}
 use Rattle.trees.specs.Rulings.{accepted, refused, ruling}
 use Rattle.blocks.specs.Blocks.{part, checked, numbered, count}
 use Rattle.blocks.specs.Image.{sized, blockRules}
-
-and-false : (a b : Bool) → b ≡ false → a && b ≡ false
-and-false true b e = e
-and-false false b e = refl
+use Rattle.blocks.proofs.Both.{and-false}
 
 module _ {A : Type 0} (limit : ℕ) (s : List ℕ) (x : A) where
   refused-13 : sized limit s ≡ false → ruling (blockRules limit s) x ≡ refused 13 0 0

@@ -1,8 +1,6 @@
 pub mod Halves
 pub mod Sums
 pub mod Blocks
-pub mod Stored
-pub mod Sealing
 pub mod Image
 pub mod Searches
 pub mod Both

@@ -1,7 +1,6 @@
 -- Blocks of 512 bytes.                                                               (01, "The stored image, form 1")
 --   run i k l       == the k entries of l from entry i on
 --   word s at       == the number whose low byte stands at `at`                      (01, "numbers low byte first")
---   stored s at w   == the bytes s with the word w at `at`
 --   Sums, start     == the sums A and B; as they start                               (01, "Both start at 0")
 --   grown s x       == the sums after one more byte x                                (01, "A grows by the byte and B by the new A, both wrapping at 65,536")
 --   sums s l        == the sums after the bytes l, in order, from s on
@@ -21,7 +20,7 @@ use Prim.Native.Nat.{ℕ, zero, suc, _+_, _*_, _/_, _%_, _≤_}
 use mathlib.Core.Path.{_≡_}
 use mathlib.Core.Bool.{Bool, _&&_}
 use mathlib.Core.List.{List, [], _∷_, _++_}
-use lib.ListN.{length, getD, take, drop, set}
+use lib.ListN.{length, getD, take, drop}
 use lib.Dec.{eqb}
 use Rattle.blocks.specs.Halves.{bytesOf, wordsOf}
 
@@ -30,9 +29,6 @@ run i k l = take k (drop i l)
 
 abbrev pub word : List ℕ → ℕ → ℕ
 word s at = getD s at 0 + 256 * getD s (at + 1) 0
-
-abbrev pub stored : List ℕ → ℕ → ℕ → List ℕ
-stored s at w = set (set s at (w % 256)) (at + 1) (w / 256)
 
 pub record Sums : Type 0 where
   pub a : ℕ

@@ -2,10 +2,8 @@
 ghost use mathlib.Core.Path.{_≡_};
 ghost use Prim.Native.Nat.{_≤_};
 ghost use Rattle.trees.specs.Lists.{lowest};
-ghost use Rattle.trees.specs.Rulings.{ruling};
 ghost use Rattle.blocks.specs.Blocks.{part, checked, numbered, count};
-ghost use Rattle.blocks.specs.Image.{blockRules};
-ghost use Rattle.blocks.specs.Answers.{framedOf};
+ghost use Rattle.blocks.specs.Promises.{JudgeBlocksMeets};
 use trees::Refusal;
 
 // How many blocks an image has, or why it is refused.
@@ -59,7 +57,7 @@ fn refused(number: u16, place: usize) -> Framed
 
 // 13, 14 and 15 of an image of which at most `limit` blocks are allowed.
 pub fn judge_blocks(image: &[u8], limit: usize) -> Framed
-    ensures { λ r. ⌜ framedOf r ≡ ruling (blockRules limit (now (image .entry))) (count (now (image .entry))) ⌝ }
+    ensures { λ r. ⌜ JudgeBlocksMeets (now (image .entry)) limit r ⌝ }
 {
     let m = image.len();
     let n = m / 512;

@@ -2,33 +2,24 @@
 use Prim.Native.Nat.{ℕ, _*_, _/_, _%_, _≤_, _<_}
 use native.Mathlib.Omega.{arith}
 use mathlib.Core.Path.{_≡_, refl, sym, ap, _∙_}
+use mathlib.Core.Logic.{inl, inr}
 use mathlib.Core.Bool.{true, false, _&&_}
 use mathlib.Core.List.{List}
 use lib.ListN.{length}
 use lib.Dec.{eqb, eqb→eq}
 use borrow.Author.Tests.{lt-leb, le-leb, eq-eqb, ne-eqb}
 use Rattle.trees.specs.Lists.{pick}
-use Rattle.trees.specs.Rulings.{Ruling, accepted, refused, whole, numberOf, treeOf, Fine, verdict}
+use Rattle.trees.specs.Rulings.{Ruling, accepted, refused, whole, numberOf, treeOf, verdict}
 use Rattle.trees.specs.Rules.{sized, speciesRules}
-use Rattle.trees.proofs.Bools.{and-left, and-right, true-T}
+use Rattle.trees.proofs.Bools.{test, and-left, and-right, true-T, clash}
 use Rattle.trees.proofs.Rulings.{ruling-fail}
 use Rattle.blocks.proofs.Halves.{length-joined}
 use Rattle.families.specs.Loading.{Contents, lends, openRules, entryRules, load}
-use Rattle.images.specs.Judging.{imageRules, plain}
-use Rattle.images.proofs.Loads.{judged-load, opens-few}
+use Rattle.families.proofs.Places.{place-fits}
+use Rattle.judging.specs.Judging.{imageRules, plain}
+use Rattle.opening.proofs.Opening.{opens-few}
+use Rattle.judging.proofs.Judging.{judged-load}
 use Rattle.collector.specs.Host.{fits, rackParents, rackTaxa, scratch, hostRuling, numberIn, treeIn, placeIn}
-
-abbrev pub numberOfPlain : Ruling Fine → ℕ
-numberOfPlain (accepted c) = 0
-numberOfPlain (refused n t v) = n
-
-abbrev pub treeOfPlain : Ruling Fine → ℕ
-treeOfPlain (accepted c) = 0
-treeOfPlain (refused n t v) = t
-
-abbrev pub placeOfPlain : Ruling Fine → ℕ
-placeOfPlain (accepted c) = 0
-placeOfPlain (refused n t v) = v
 
 pub host-unfit : (image parents taxa : List ℕ) → fits parents taxa ≡ false → refused 1 1 0 ≡ hostRuling image parents taxa
 unfolding hostRuling pick
@@ -88,14 +79,30 @@ host-judged image parents taxa e =
     ∙ ap plain (host-fit image parents taxa e)
 
 -- what is answered of a ruling does not need its value
-pub number-plain : (r : Ruling Contents) (x : Ruling Fine) → x ≡ plain r → numberOfPlain x ≡ numberIn r
-number-plain (accepted c) x e = ap numberOfPlain e
-number-plain (refused n t v) x e = ap numberOfPlain e
+pub number-plain : (r : Ruling Contents) → numberIn (plain r) ≡ numberIn r
+number-plain (accepted c) = refl
+number-plain (refused n t v) = refl
 
-pub tree-plain : (r : Ruling Contents) (x : Ruling Fine) → x ≡ plain r → treeOfPlain x ≡ treeIn r
-tree-plain (accepted c) x e = ap treeOfPlain e
-tree-plain (refused n t v) x e = ap treeOfPlain e
+pub tree-plain : (r : Ruling Contents) → treeIn (plain r) ≡ treeIn r
+tree-plain (accepted c) = refl
+tree-plain (refused n t v) = refl
 
-pub place-plain : (r : Ruling Contents) (x : Ruling Fine) → x ≡ plain r → placeOfPlain x ≡ placeIn r
-place-plain (accepted c) x e = ap placeOfPlain e
-place-plain (refused n t v) x e = ap placeOfPlain e
+pub place-plain : (r : Ruling Contents) → placeIn (plain r) ≡ placeIn r
+place-plain (accepted c) = refl
+place-plain (refused n t v) = refl
+
+-- ---- the place has 16 bits
+
+plain-refused : (r : Ruling Contents) (n t v : ℕ) → refused n t v ≡ plain r → r ≡ refused n t v
+plain-refused (accepted c) n t v e = clash (cc)
+plain-refused (refused m u w) n t v e = let f : refused n t v ≡ refused m u w = e in cc
+
+host-place : (image parents taxa : List ℕ) (n t v : ℕ) → hostRuling image parents taxa ≡ refused n t v → v < 65536
+host-place image parents taxa n t v e =
+    elim (test (fits parents taxa)) [
+      | inl f ↦ place-fits (rackParents parents) (rackTaxa taxa) image scratch n t v (host-fit image parents taxa f ∙ e)
+      | inr f ↦ let g : refused 1 1 0 ≡ refused n t v = host-unfit image parents taxa f ∙ e in let z : 0 ≡ v = cc in omega arith
+    ]
+
+pub place-small : (image parents taxa : List ℕ) (n t v : ℕ) → refused n t v ≡ plain (hostRuling image parents taxa) → v < 65536
+place-small image parents taxa n t v e = host-place image parents taxa n t v (plain-refused (hostRuling image parents taxa) n t v e)

@@ -38,15 +38,15 @@ unfoldable pub hostRuling : List ℕ → List ℕ → List ℕ → Ruling Conten
 hostRuling image parents taxa = pick (fits parents taxa) ((load (rackParents parents) (rackTaxa taxa) image scratch) .answer) (refused 1 1 0)
 
 -- "the refusal number of an image against the rack's two species tables (0 if none)", and its tree and place
-abbrev pub numberIn : Ruling Contents → ℕ
+abbrev pub numberIn : {A : Type 0} → Ruling A → ℕ
 numberIn (accepted c) = 0
 numberIn (refused n t v) = n
 
-abbrev pub treeIn : Ruling Contents → ℕ
+abbrev pub treeIn : {A : Type 0} → Ruling A → ℕ
 treeIn (accepted c) = 0
 treeIn (refused n t v) = t
 
-abbrev pub placeIn : Ruling Contents → ℕ
+abbrev pub placeIn : {A : Type 0} → Ruling A → ℕ
 placeIn (accepted c) = 0
 placeIn (refused n t v) = v
 

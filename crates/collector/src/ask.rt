@@ -3,10 +3,9 @@ ghost use mathlib.Core.Path.{_≡_};
 ghost use Prim.Native.Nat.{_*_};
 ghost use lib.ListN.{length};
 ghost use Rattle.families.specs.Loading.{load};
-ghost use Rattle.images.specs.Answers.{loadedOf};
+ghost use Rattle.loading.specs.Answers.{loadedOf};
 ghost use Rattle.collector.specs.Host.{fits, rackParents, rackTaxa, scratch, hostRuling};
-use images::load;
-use images::load::Loaded;
+use loading::Loaded;
 use trees::Refusal;
 use words::piece;
 
@@ -18,7 +17,7 @@ fn on_rack(image: &[u8], species_parents: &[u16], species_taxa: &[u32]) -> Loade
     let mut gene_taxa = [0u32; 2047];
     let mut places = [0u16; 2047];
     let mut labels = [0u16; 2047];
-    load::load_image(
+    loading::load_image(
         species_parents,
         species_taxa,
         image,
@@ -45,14 +44,15 @@ fn on_bytes(
     on_rack(image, species_parents, species_taxa)
 }
 
-fn no_tables() -> Loaded
-    ensures { λ r. ⌜ r ≡ Loaded.Refused (record { number = 1; tree = 1; place = 0 }) ⌝ }
+// Lengths that do not make two equal tables, or tables with more entries than a tree may have.
+pub(crate) fn no_tables() -> Refusal
+    ensures { λ r. ⌜ r ≡ record { number = 1; tree = 1; place = 0 } ⌝ }
 {
-    Loaded::Refused(Refusal {
+    Refusal {
         number: 1,
         tree: 1,
         place: 0,
-    })
+    }
 }
 
 // Do the lengths make two equal tables?
@@ -73,11 +73,11 @@ pub(crate) fn ask(image: &[u8], parents: &[u8], taxa: &[u8]) -> Loaded
     ensures { λ r. ⌜ loadedOf r ≡ hostRuling (now (image .entry)) (now (parents .entry)) (now (taxa .entry)) ⌝ }
 {
     if !fitting(parents, taxa) {
-        return no_tables();
+        return Loaded::Refused(no_tables());
     }
     let n = parents.len() / 2;
     if 2047 < n {
-        return no_tables();
+        return Loaded::Refused(no_tables());
     }
     let mut species_parents = [0u16; 2047];
     let mut species_taxa = [0u32; 2047];

@@ -4,13 +4,11 @@ ghost use mathlib.Core.Path.{_≡_};
 ghost use Prim.Native.Nat.{_*_, _≤_};
 ghost use lib.ListN.{length};
 ghost use Rattle.trees.specs.Rulings.{verdict};
-ghost use Rattle.judges.specs.Answers.{judgedOf};
-ghost use Rattle.images.specs.Judging.{imageRules, plain};
+ghost use Rattle.trees.specs.Answers.{judgedOf};
+ghost use Rattle.judging.specs.Judging.{imageRules, plain};
 ghost use Rattle.collector.specs.Host.{rackParents, rackTaxa, hostRuling, Halved};
 use crate::ask;
-use images::judge;
-use judges::Judged;
-use trees::Refusal;
+use trees::Judged;
 use words::piece;
 
 // The image on a rack whose tables are decoded into two tables of the right length.
@@ -26,7 +24,7 @@ fn judge_bytes(
 {
     piece::copy_words(parents, species_parents);
     piece::copy_longs(taxa, species_taxa);
-    judge::judge_image(species_parents, species_taxa, image)
+    judging::judge_image(species_parents, species_taxa, image)
 }
 
 // The image on a rack with n nodes, few: 1,530 bytes of stack.
@@ -61,26 +59,16 @@ fn judge_many(image: &[u8], parents: &[u8], taxa: &[u8], n: usize) -> Judged
     )
 }
 
-fn no_tables() -> Judged
-    ensures { λ r. ⌜ r ≡ Judged.Refused (record { number = 1; tree = 1; place = 0 }) ⌝ }
-{
-    Judged::Refused(Refusal {
-        number: 1,
-        tree: 1,
-        place: 0,
-    })
-}
-
 // What the image is refused by on the rack, if anything.
 pub(crate) fn refusal(image: &[u8], parents: &[u8], taxa: &[u8]) -> Judged
     ensures { λ r. ⌜ judgedOf r ≡ plain (hostRuling (now (image .entry)) (now (parents .entry)) (now (taxa .entry))) ⌝ }
 {
     if !ask::fitting(parents, taxa) {
-        return no_tables();
+        return Judged::Refused(ask::no_tables());
     }
     let n = parents.len() / 2;
     if 2047 < n {
-        return no_tables();
+        return Judged::Refused(ask::no_tables());
     }
     if n <= 255 {
         return judge_few(image, parents, taxa, n);

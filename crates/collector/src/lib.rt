@@ -3,16 +3,14 @@
 mod ask;
 mod judge;
 
-ghost use mathlib.Core.Path.{_≡_};
-ghost use Prim.Native.Nat.{_%_};
-ghost use Rattle.collector.specs.Host.{hostRuling, numberIn, treeIn, placeIn, duplicationsIn, lossesIn};
-use images::load::Loaded;
-use judges::Judged;
+ghost use Rattle.collector.specs.Promises.{PanheronRefusalMeets, PanheronTreeMeets, PanheronPlaceMeets, PanheronDuplicationsMeets, PanheronLossesMeets};
+use loading::Loaded;
+use trees::Judged;
 
 // The number of the refusal, or 0.
 #[no_mangle]
 pub extern "C" fn panheron_refusal(image: &[u8], parents: &[u8], taxa: &[u8]) -> u32
-    ensures { λ r. ⌜ r ≡ numberIn (hostRuling (now (image .entry)) (now (parents .entry)) (now (taxa .entry))) ⌝ }
+    ensures { λ r. ⌜ PanheronRefusalMeets (now (image .entry)) (now (parents .entry)) (now (taxa .entry)) r ⌝ }
 {
     let answer = judge::refusal(image, parents, taxa);
     match answer {
@@ -24,7 +22,7 @@ pub extern "C" fn panheron_refusal(image: &[u8], parents: &[u8], taxa: &[u8]) ->
 // The tree of the refusal (1 species, 2 gene), or 0.
 #[no_mangle]
 pub extern "C" fn panheron_tree(image: &[u8], parents: &[u8], taxa: &[u8]) -> u32
-    ensures { λ r. ⌜ r ≡ treeIn (hostRuling (now (image .entry)) (now (parents .entry)) (now (taxa .entry))) ⌝ }
+    ensures { λ r. ⌜ PanheronTreeMeets (now (image .entry)) (now (parents .entry)) (now (taxa .entry)) r ⌝ }
 {
     let answer = judge::refusal(image, parents, taxa);
     match answer {
@@ -36,19 +34,19 @@ pub extern "C" fn panheron_tree(image: &[u8], parents: &[u8], taxa: &[u8]) -> u3
 // The place of the refusal: a node of that tree, a block of the image, or 0.
 #[no_mangle]
 pub extern "C" fn panheron_place(image: &[u8], parents: &[u8], taxa: &[u8]) -> u32
-    ensures { λ r. ⌜ r ≡ placeIn (hostRuling (now (image .entry)) (now (parents .entry)) (now (taxa .entry))) % 4294967296 ⌝ }
+    ensures { λ r. ⌜ PanheronPlaceMeets (now (image .entry)) (now (parents .entry)) (now (taxa .entry)) r ⌝ }
 {
     let answer = judge::refusal(image, parents, taxa);
     match answer {
         Judged::Sound => 0,
-        Judged::Refused(r) => (r.place % 4294967296) as u32,
+        Judged::Refused(r) => r.place as u32,
     }
 }
 
 // The duplications of the stored history, or 0.
 #[no_mangle]
 pub extern "C" fn panheron_duplications(image: &[u8], parents: &[u8], taxa: &[u8]) -> u32
-    ensures { λ r. ⌜ r ≡ duplicationsIn (hostRuling (now (image .entry)) (now (parents .entry)) (now (taxa .entry))) ⌝ }
+    ensures { λ r. ⌜ PanheronDuplicationsMeets (now (image .entry)) (now (parents .entry)) (now (taxa .entry)) r ⌝ }
 {
     let answer = ask::ask(image, parents, taxa);
     match answer {
@@ -60,7 +58,7 @@ pub extern "C" fn panheron_duplications(image: &[u8], parents: &[u8], taxa: &[u8
 // The losses of the stored history, or 0.
 #[no_mangle]
 pub extern "C" fn panheron_losses(image: &[u8], parents: &[u8], taxa: &[u8]) -> u32
-    ensures { λ r. ⌜ r ≡ lossesIn (hostRuling (now (image .entry)) (now (parents .entry)) (now (taxa .entry))) ⌝ }
+    ensures { λ r. ⌜ PanheronLossesMeets (now (image .entry)) (now (parents .entry)) (now (taxa .entry)) r ⌝ }
 {
     let answer = ask::ask(image, parents, taxa);
     match answer {

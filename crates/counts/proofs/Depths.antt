@@ -9,12 +9,12 @@ use lib.Seq.{getD-set-same, getD-set-other}
 use Rattle.trees.specs.Lists.{total, one}
 use Rattle.trees.specs.Trees.{up, depth}
 use Rattle.trees.specs.Sound.{SoundTree}
-use Rattle.trees.proofs.Lines.{up-at, line-out}
+use Rattle.trees.proofs.Lines.{up-at, parent-in, line-out}
 use Rattle.trees.proofs.Shape.{inner-count, depth-few}
 use Rattle.trees.proofs.Sound.{rooted}
 use Rattle.histories.specs.Histories.{everyNode}
 use Rattle.histories.proofs.Leaves.{depth-up}
-use Rattle.counts.specs.Tallies.{Deep}
+use Rattle.counts.specs.Sums.{Deep}
 
 -- the depths of the first i nodes stand
 pub record Deepening (par : List ℕ) (i : ℕ) (out : List ℕ) : Type 0 where
@@ -25,9 +25,6 @@ module _ {par tax : List ℕ} (S : SoundTree par tax) where
   depth-root : depth par everyNode 0 ≡ 0
   unfolding depth total
   depth-root = rw (line-out par (up par 0) (omega (arith, S .top, S .few)))
-
-  pub parent-in : (i : ℕ) → 0 < i → i < length par → getD par i 0 < i
-  parent-in i a b = rw (up-at par i b) at (S .order i a b)
 
   depth-next : (i : ℕ) → 0 < i → i < length par → depth par everyNode i ≡ depth par everyNode (getD par i 0) + 1
   unfolding one
@@ -53,14 +50,14 @@ module _ {par tax : List ℕ} (S : SoundTree par tax) where
       record {
         size = length-set out i v ∙ D .size;
         at = λ s h. elim (ℕ-discrete s i) [
-          | yes z ↦ rw (z, getD-set-same out i v 0 (omega arith), D .at (getD par i 0) (parent-in i a b)) (sym (depth-next i a b))
+          | yes z ↦ rw (z, getD-set-same out i v 0 (omega arith), D .at (getD par i 0) (parent-in par i b (S .order i a b))) (sym (depth-next i a b))
           | no z ↦ getD-set-other out i s v 0 z ∙ D .at s (omega arith)
         ];
       }
 
   -- a depth read while the table is filled is small
   pub deep-small : (i : ℕ) (out : List ℕ) → 0 < i → i < length par → Deepening par i out → getD out (getD par i 0) 0 ≤ 1023
-  deep-small i out a b D = let u = parent-in i a b in rw (D .at (getD par i 0) u) (depth-fits (getD par i 0) (omega arith))
+  deep-small i out a b D = let u = parent-in par i b (S .order i a b) in rw (D .at (getD par i 0) u) (depth-fits (getD par i 0) (omega arith))
 
   pub deepening-end : (i : ℕ) (out : List ℕ) → i ≡ length par → Deepening par i out → Deep par out
   deepening-end i out e D = record { size = D .size; few = S .few; at = λ s h. D .at s (rw e h) }

@@ -16,7 +16,10 @@ use Rattle.trees.proofs.Sound.{trees}
 use Rattle.histories.specs.Histories.{History, told, Agree, everyNode, depthIn, duplications, speciations, lossesIn, climbs}
 use Rattle.histories.proofs.Counts.{climbs-below, climbs-losses, losses-agree, climbs-agree, duplications-agree, speciations-agree}
 use Rattle.histories.proofs.Bounds.{climbs-few}
-use Rattle.counts.specs.Tallies.{Deep, stepsOf, Step, kindsTo, stepsTo, tallied, Countable, historyTally, Story}
+use Rattle.counts.specs.Tallies.{talliedOf, historyTally, Story}
+use Rattle.counts.specs.Sums.{Deep, stepsOf, Step, kindsTo, stepsTo, Countable, Summed, Lossy}
+use Rattle.counts.specs.declared.Sums.{Sums}
+use Rattle.counts.specs.declared.Tally.{Tally}
 
 -- ---- one turn of the sums
 
@@ -79,15 +82,25 @@ module _ {w : Pair} {depths places labels : List ℕ} (Y : Story w places labels
             rw (deep-at c l, deep-at (getD (w .gp) c 0) u)
             (depth-le (trees (Y .sound) .s .ground) everyNode (rw (up-at (w .gp) c l) at (Y .legal .descent c l (rw (up-at (w .gp) c l) u))));
         steps-few = rw steps-climbs (climbs-few (Y .sound) everyNode h (λ g l. place-in g l));
-        enough = rw (steps-climbs, kinds-speciations) (omega (arith, climbs-losses (Y .sound) (Y .legal)));
       }
 
-  pub tallied-is : tallied depths (w .gp) places labels ≡ historyTally w h
-  unfolding tallied historyTally duplications speciations nodes
-  tallied-is =
-      let l : stepsTo depths (w .gp) places (length (w .gp)) - 2 * kindsTo labels 1 (length (w .gp)) ≡ lossesIn w h =
-      rw (steps-climbs, kinds-speciations) (omega (arith, climbs-losses (Y .sound) (Y .legal))) in
-      rw (l, steps-climbs)
+  module _ {r : Sums} (R : Summed depths (w .gp) places labels r) where
+    pub sums-lossy : Lossy r
+    sums-lossy =
+        record {
+          duplications-few = R .duplications-few;
+          speciations-few = R .speciations-few;
+          enough = rw (R .climbs, R .speciations, steps-climbs, kinds-speciations) (omega (arith, climbs-losses (Y .sound) (Y .legal)));
+        }
+
+    -- the sums, with the losses they give, are what 01 counts
+    pub sums-tally : (t : Tally) → t .duplications ≡ r .duplications → t .losses ≡ r .climbs - 2 * r .speciations → t .speciations ≡ r .speciations → t .climbs ≡ r .climbs
+        → talliedOf t ≡ historyTally w h
+    unfolding historyTally duplications nodes
+    sums-tally t a b c d =
+        let l : t .losses ≡ lossesIn w h =
+        b ∙ rw (R .climbs, R .speciations, steps-climbs, kinds-speciations) (omega (arith, climbs-losses (Y .sound) (Y .legal))) in
+        rw (a ∙ R .duplications, l, c ∙ R .speciations ∙ kinds-speciations, d ∙ R .climbs ∙ steps-climbs)
 
 -- histories that agree at every gene node count alike
 pub tally-agree : (w : Pair) {h k : History} → Agree w h k → historyTally w h ≡ historyTally w k

@@ -1,1 +1,3 @@
 pub mod Tallies
+pub mod Sums
+pub mod Promises

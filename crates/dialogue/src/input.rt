@@ -1,10 +1,10 @@
 // What is read: decimal numbers, separated by spaces or line feeds, and tables, a table being its length and then its entries.
 ghost use Prim.Native.Nat.{_≤_};
 ghost use Rattle.io.specs.Counts.{Counts};
-use crate::Memory;
-use crate::Talk;
-use crate::spoil;
 use libc::STDIN_FILENO;
+use talks::Memory;
+use talks::Talk;
+use talks::spoil;
 
 // A number, or 0 where the talk is spoiled; `over` if only blanks were left.
 pub struct Found {

@@ -1,9 +1,9 @@
 // The tables that requests are made of, in the memory that a request has for them: a tree's two tables, a history's two, an image, and the two byte tables of a C call. Each answer counts entries at the start of its table.
 ghost use Rattle.io.specs.Counts.{Counts};
-use crate::Memory;
 use crate::Table;
-use crate::Talk;
 use crate::input;
+use talks::Memory;
+use talks::Talk;
 
 // How many entries each of two tables has.
 pub struct Tables {

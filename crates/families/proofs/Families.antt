@@ -6,9 +6,9 @@ use mathlib.Core.List.{List, _∷_, _++_, append-assoc}
 use lib.ListN.{length, getD, take, drop, length-append}
 use Rattle.blocks.specs.Halves.{Under, lowHigh, longsOf}
 use Rattle.blocks.specs.Blocks.{run}
-use Rattle.blocks.proofs.Halves.{length-halves, length-joined, joined-halves, halves-joined, under-take, under-drop}
+use Rattle.blocks.proofs.Halves.{length-halves, length-joined, joined-halves, halves-joined, under-take, under-drop, length-run}
 use Rattle.families.specs.Families.{Family, tablesOf, familyWords, speciesCount, geneCount, wordCount, familyOf, Even}
-use Rattle.families.proofs.Runs.{cut, run-add, run-three, length-run}
+use Rattle.families.proofs.Runs.{cut, run-add, run-three}
 
 -- ---- how many words
 

@@ -3,3 +3,4 @@ pub mod Families
 pub mod Opened
 pub mod Loaded
 pub mod Kept
+pub mod Places

@@ -4,17 +4,17 @@ use native.Mathlib.Omega.{arith}
 use mathlib.Core.Path.{_≡_, refl}
 use mathlib.Core.Logic.{_↔_}
 use mathlib.Core.Bool.{_&&_}
-use mathlib.Core.List.{List, [], _∷_, _++_}
+use mathlib.Core.List.{List, [], _∷_, _++_, append-nil}
 use lib.ListN.{length}
 use lib.Dec.{T, leb, leb→le, le→leb}
 use Rattle.trees.specs.Tables.{Pair}
 use Rattle.trees.specs.Sound.{Sound}
 use Rattle.trees.specs.Lent.{replaced}
-use Rattle.trees.specs.Rulings.{accepted, whole, ruling, fine, verdict, Passes, Every, done, and}
+use Rattle.trees.specs.Rulings.{accepted, refused, Rule, whole, ruling, fine, verdict, Passes, Every, done, and}
 use Rattle.trees.specs.Rules.{sized, familyRules}
 use Rattle.trees.proofs.Bools.{and-both, and-left, and-right}
-use Rattle.trees.proofs.Rulings.{every-head, every-join, every-left, every-right, ruling-is, ruling-passes, ruling-accepted}
-use Rattle.trees.proofs.Judged.{is-sized, family-sound}
+use Rattle.trees.proofs.Rulings.{every-head, every-join, every-left, every-right, ruling-is, ruling-stays, ruling-passes, ruling-accepted}
+use Rattle.trees.proofs.Soundness.{is-sized, family-sound}
 use Rattle.histories.specs.Histories.{told, everyNode}
 use Rattle.histories.specs.Legal.{Legal}
 use Rattle.histories.specs.Rules.{descentRules, offerRules, offerCounts, offerRuling}
@@ -75,6 +75,10 @@ module _ (sp st s : List ℕ) where
         (λ e. every-join (familyRules w) (descentRules w everyNode h) (k .1 (e .0 .genes, e .0 .known)) (descent-legal (e .0) everyNode h .1 (e .1))),
       )
 
+-- a refusal does not depend on what would be answered
+pub refused-any : {A B : Type 0} (rs : List Rule) (a : A) (b : B) (n t v : ℕ) → ruling rs a ≡ refused n t v → ruling rs b ≡ refused n t v
+refused-any rs a b n t v e = rw append-nil at (ruling-stays rs [] a b n t v e)
+
 -- what it takes for a load to be accepted, with which answer
 pub record Loaded (sp st s : List ℕ) (t : Lent) (a : Contents) : Type 0 where
   pub opened : Opened sp st s
@@ -98,7 +102,7 @@ loadedAs a f t =
     }
 
 module _ (sp st s : List ℕ) (t : Lent) where
-  entry-is : Every Passes (entryRules sp st s t) ↔ (Opened sp st s × Lends (geneCount (content s)) t)
+  pub entry-is : Every Passes (entryRules sp st s t) ↔ (Opened sp st s × Lends (geneCount (content s)) t)
   unfolding entryRules
   entry-is =
       let r = whole 7 0 0 (lends (geneCount (content s)) t) ∷ [] in (

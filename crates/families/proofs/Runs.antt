@@ -3,8 +3,8 @@ use Prim.Native.Nat.{ℕ, _+_, _≤_}
 use native.Mathlib.Omega.{arith}
 use mathlib.Core.Path.{_≡_, sym, ap, _∙_}
 use mathlib.Core.List.{List, [], _∷_, _++_}
-use lib.ListN.{length, getD, take, drop, length-drop}
-use lib.Seq.{take-at, drop-at, drop-drop, take-add, length-take-le}
+use lib.ListN.{length, getD, take, drop}
+use lib.Seq.{take-at, drop-at, drop-drop, take-add}
 use Rattle.blocks.specs.Blocks.{run}
 
 -- the first list of those that stand from i on is a run, and the others stand behind it
@@ -21,6 +21,3 @@ run-three [] n h = absurd (omega arith)
 run-three (x ∷ []) n h = absurd (omega arith)
 run-three (x ∷ y ∷ []) n h = absurd (omega arith)
 run-three (x ∷ y ∷ z ∷ l) n h = sym (take-add 3 n (x ∷ y ∷ z ∷ l))
-
-pub length-run : (i k : ℕ) (l : List ℕ) → i + k ≤ length l → length (run i k l) ≡ k
-length-run i k l h = length-take-le k (drop i l) (rw length-drop (omega arith))

@@ -1,3 +1,4 @@
 pub mod Families
 pub mod Writing
 pub mod Loading
+pub mod Swaps

@@ -12,6 +12,7 @@
 --   Contents, contentsOf w h == what an accepted load answers: p, q, and the duplications and losses of the stored history
 --   tableAfter e r q new old == what a lent table holds after the rulings e of the entry and r of the story:
 --                        unchanged; "the first q entries .. zero and the rest unchanged"; the first q entries new
+--   zeroedAll q t     == the first q entries of the four tables zero, the rest as it was
 --   Loading, load ..  == the outcome of a call
 -- Assumes nothing.
 use Prim.Native.Nat.{ℕ}
@@ -89,6 +90,9 @@ abbrev pub tableAfter : Ruling Fine → Ruling Fine → ℕ → List ℕ → Lis
 tableAfter (refused n t v) r q new old = old
 tableAfter (accepted x) (refused n t v) q new old = zeroed q old
 tableAfter (accepted x) (accepted y) q new old = replaced new old
+
+abbrev pub zeroedAll : ℕ → Lent → Lent
+zeroedAll q t = record { gp = zeroed q (t .gp); gt = zeroed q (t .gt); places = zeroed q (t .places); labels = zeroed q (t .labels) }
 
 pub record Loading : Type 0 where
   pub answer : Ruling Contents

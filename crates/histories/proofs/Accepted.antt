@@ -1,26 +1,24 @@
 -- What each call accepts, and that it accepts the tables of the least history. Assumes nothing.
 use Prim.Native.Nat.{ℕ, _≤_, _<_}
-use native.Mathlib.Omega.{arith}
 use mathlib.Core.Path.{_≡_}
 use mathlib.Core.Logic.{_↔_}
 use mathlib.Core.List.{List, [], _∷_, _++_}
-use lib.ListN.{length, length-append}
+use lib.ListN.{length}
 use lib.Dec.{T, leb, ltb, leb→le, le→leb, ltb→lt, lt→ltb}
 use Rattle.trees.specs.Tables.{Pair}
 use Rattle.trees.specs.Sound.{Sound}
 use Rattle.trees.specs.Rulings.{accepted, Rule, whole, ruling, Passes, Every, done, and}
 use Rattle.trees.specs.Rules.{pairRules}
 use Rattle.trees.proofs.Bools.{and-both, and-left, and-right}
-use Rattle.histories.specs.Histories.{Agree, told, least, leastPlaces, leastLabels, everyNode}
+use Rattle.histories.specs.Histories.{Agree, told, least, everyNode}
 use Rattle.histories.specs.Dating.{Dated, dated}
 use Rattle.histories.specs.Legal.{Legal}
 use Rattle.histories.specs.Rules.{roomy, descentRules, leastRules, offerRules, datingRules, Counts, OfferCounts, leastCounts, offerCounts, leastRuling, offerRuling, datingRuling}
 use Rattle.histories.proofs.Legal.{least-legal, legal-agree}
 use Rattle.histories.proofs.Counts.{losses-agree, duplications-agree, speciations-agree}
 use Rattle.trees.proofs.Rulings.{every-head, every-tail, every-join, every-left, every-right, ruling-is}
-use Rattle.trees.proofs.Judged.{pair-sound}
+use Rattle.trees.proofs.Soundness.{pair-sound}
 use Rattle.histories.proofs.Judged.{descent-legal}
-use Rattle.histories.proofs.Tables.{length-places, length-labels, told-least}
 
 pub roomy-is : (w : Pair) (places labels : List ℕ) → T (roomy w places labels) ↔ ((length (w .gp) ≤ length places) × (length (w .gp) ≤ length labels))
 unfolding roomy
@@ -105,10 +103,3 @@ module _ (w : Pair) where
         legal = legal-agree S A (least-legal S);
         value = rw (losses-agree w A, duplications-agree w A, speciations-agree w A);
       })
-
-  -- those that the least history writes, with anything behind them
-  pub written-accepted : Sound w → (xs ys : List ℕ) → offerRuling w (leastPlaces w ++ xs) (leastLabels w ++ ys) ≡ accepted (offerCounts w (least w))
-  written-accepted S xs ys =
-      least-accepted S (leastPlaces w ++ xs) (leastLabels w ++ ys)
-      (omega (arith, length-append (leastPlaces w) xs, length-places w)) (omega (arith, length-append (leastLabels w) ys, length-labels w))
-      (told-least w xs ys)

@@ -96,9 +96,3 @@ module _ {w : Pair} (S : Sound w) where
 pub cost-fits : (dw lw ds ls : ℕ) → dw ≤ 65535 → lw ≤ 65535 → ds ≤ 2047 → ls ≤ 2093058 → cost dw lw ds ls < 2 ^ 64
 unfolding cost
 cost-fits dw lw ds ls a b c e = omega (arith, mul-le-mul {n₁ = dw} {m₁ = ds} {n₂ = 65535} {m₂ = 2047} a c, mul-le-mul {n₁ = lw} {m₁ = ls} {n₂ = 65535} {m₂ = 2093058} b e)
-
--- the cost of the least history
-pub least-cost-fits : {w : Pair} → Sound w → (dw lw : ℕ) → dw ≤ 65535 → lw ≤ 65535 → cost dw lw (duplications (w .gp) (least w)) (lossesIn w (least w)) < 2 ^ 64
-least-cost-fits {w} S dw lw a b =
-    cost-fits dw lw (duplications (w .gp) (least w)) (lossesIn w (least w)) a b
-    (omega (arith, duplications-few (w .gp) (least w), S .genes .few)) (least-losses-few S)

@@ -50,10 +50,6 @@ module _ {gp : List ℕ} (R : Rooted gp) (d : ℕ → ℕ) (h : History) where
       (λ g t. total-cong (f g) e (kids gp g) (λ c s. let k = has-kids gp s in rw (k .1, lt-ltb g (length gp) (node-has gp t))))
       ∙ omega (arith, sum-kids R e)
 
-  pub losses-below : losses d gp h ≡ total (λ c. only (ltb (up gp c) (length gp)) (edge d h (up gp c) c)) (nodes gp)
-  unfolding losses lossesAt
-  losses-below = from-below (edge d h)
-
   pub climbs-below : climbs d gp h ≡ total (λ c. only (ltb (up gp c) (length gp)) (d (h .at c) - d (h .at (up gp c)))) (nodes gp)
   unfolding climbs climbsAt
   climbs-below = from-below (λ g c. d (h .at c) - d (h .at g))

@@ -2,27 +2,24 @@
 use Prim.Native.Nat.{ℕ, _<_}
 use native.Mathlib.Omega.{arith}
 use native.Mathlib.Decide.{ℕ-discrete}
-use mathlib.Core.Path.{_≡_, refl, sym, ap, _∙_, subst}
-use mathlib.Core.Logic.{_⊎_, inl, inr, _≢_, _↔_}
+use mathlib.Core.Path.{_≡_, refl, sym, ap, _∙_}
+use mathlib.Core.Logic.{_⊎_, inl, inr, _≢_}
 use mathlib.Core.Bool.{Bool}
 use lib.ListN.{length}
 use lib.Dec.{eqb, eqb→eq}
 use borrow.Author.Tests.{ne-eqb, lt-ltb, le-ltb}
 use Rattle.trees.specs.Lists.{any, pick}
-use Rattle.trees.specs.Trees.{none, up, line, Below, here, step}
+use Rattle.trees.specs.Trees.{none, up, line, Below}
 use Rattle.trees.specs.Tables.{Pair}
 use Rattle.trees.specs.Sound.{Sound}
 use Rattle.trees.proofs.Bools.{test, true-T}
 use Rattle.trees.proofs.Lists.{first-none, first-has, any-has, has-any}
 use Rattle.trees.proofs.Lines.{top-node, antisym, on-line, off-line}
-use Rattle.trees.proofs.Kids.{via-kid, either-kid, not-over}
 use Rattle.trees.proofs.Roots.{first-line}
 use Rattle.trees.proofs.Sound.{trees}
 use Rattle.histories.specs.Places.{place}
 use Rattle.histories.specs.Histories.{label}
 use Rattle.histories.specs.Dating.{Dated, notDuplication, from, between, Speciated, IsDated, latest, dated}
-use Rattle.histories.proofs.Places.{place-below}
-use Rattle.histories.proofs.Labels.{label-leaf, label-cases}
 
 module _ {w : Pair} (S : Sound w) (v : ℕ) where
   -- either no proper ancestor is a speciation, or the latest is the nearest of those that are
@@ -79,34 +76,4 @@ module _ {w : Pair} (S : Sound w) (v : ℕ) where
         | inr m ↦
             let e : u ≡ latest w v = antisym (trees S .g .ground) (k .2 .2 (latest w v) (m .0)) (m .1 u (k .2 .1)) in
             rw (k .1, k .2 .3, e) (sym (dated-between (k .0) (top-node (m .0 .0))))
-      ]
-
-  -- "if v isn't a duplication, the answer says so", and only then
-  pub dated-duplication : (dated w v ≡ notDuplication) ↔ (label w v ≢ 2)
-  dated-duplication = ((λ q. subst (IsDated w v) q dated-is), dated-not)
-
-  -- a speciation shares its place with no child
-  kid-apart : (u c : ℕ) → u < length (w .gp) → label w u ≡ 1 → c < length (w .gp) → up (w .gp) c ≡ u → place w c ≢ place w u
-  kid-apart u c l e m p =
-      elim (trees S .g-two u l) [
-        | inl z ↦ absurd (omega (arith, label-leaf w u z))
-        | inr i ↦ elim (label-cases w u i) [
-          | inl k ↦ elim (either-kid (w .gp) u c i m p) [ inl q ↦ rw q (k .1) | inr q ↦ rw q (k .2) ]
-          | inr k ↦ absurd (omega (arith, k .0))
-        ]
-      ]
-
-  -- the place of a speciation lies properly above those of the nodes below it, so an upper bound is never the lower one
-  pub speciated-over : (u : ℕ) → v < length (w .gp) → Speciated w v u → Below (w .sp) (place w u) (place w v) × (place w v ≢ place w u)
-  speciated-over u l s =
-      let G = trees S .g .ground in
-      let down : Below (w .gp) u v = step l (s .0) in
-      elim (via-kid down) [
-        | inl e ↦ absurd (not-over G {c = v} (rw (sym e) at (s .0)))
-        | inr k ↦
-            let c = k .0 in
-            let apart : place w c ≢ place w u = kid-apart u c (top-node down) (s .1) (k .1) (k .2) in (
-              place-below S u v down,
-              (λ z. apart (antisym (trees S .s .ground) (place-below S u c (step (k .1) (rw (k .2) (here (top-node down))))) (rw z at (place-below S c v (k .3))))),
-            )
       ]

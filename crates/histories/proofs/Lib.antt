@@ -12,3 +12,4 @@ pub mod Judged
 pub mod Tables
 pub mod Accepted
 pub mod Rooms
+pub mod Outcomes

@@ -1,14 +1,14 @@
--- The tables of the least history tell the least history, whatever stands behind their first q entries. Assumes nothing.
+-- The tables of the least history: their lengths and entries. Assumes nothing.
 use Prim.Native.Nat.{ℕ, zero, suc, _+_, _<_}
 use native.Mathlib.Omega.{arith}
 use mathlib.Core.Path.{_≡_, refl, ap, _∙_}
-use mathlib.Core.List.{List, _++_, map}
-use lib.ListN.{length, getD, List·getD-append}
+use mathlib.Core.List.{map}
+use lib.ListN.{length, getD}
 use Rattle.trees.specs.Lists.{range}
 use Rattle.trees.specs.Trees.{nodes}
 use Rattle.trees.specs.Tables.{Pair}
 use Rattle.histories.specs.Places.{place}
-use Rattle.histories.specs.Histories.{Agree, told, label, least, leastPlaces, leastLabels}
+use Rattle.histories.specs.Histories.{label, leastPlaces, leastLabels}
 
 -- ---- a function written out over a range
 
@@ -39,9 +39,3 @@ module _ (w : Pair) where
   pub getD-labels : (g : ℕ) → g < length (w .gp) → getD (leastLabels w) g 0 ≡ label w g
   unfolding leastLabels nodes
   getD-labels g l = getD-range (label w) 0 (length (w .gp)) g l ∙ ap (label w) (omega arith)
-
-  pub told-least : (xs ys : List ℕ) → Agree w (told (leastPlaces w ++ xs) (leastLabels w ++ ys)) (least w)
-  told-least xs ys g l = (
-    List·getD-append (leastPlaces w) xs 0 g (omega (arith, length-places)) ∙ getD-places g l,
-    List·getD-append (leastLabels w) ys 0 g (omega (arith, length-labels)) ∙ getD-labels g l,
-  )

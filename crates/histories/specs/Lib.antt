@@ -5,3 +5,4 @@ pub mod Legal
 pub mod Lifts
 pub mod Rules
 pub mod Cases
+pub mod Outcomes

@@ -6,15 +6,15 @@ use mathlib.Core.Path.{_≡_, sym}
 use mathlib.Core.Logic.{inl, inr}
 use mathlib.Core.List.{List}
 use lib.ListN.{length, getD}
-use lib.Dec.{T, eqb, eqb→eq, ltb, lt→ltb}
+use lib.Dec.{eqb, ltb, lt→ltb}
 use Rattle.trees.specs.Tables.{taxon}
 use Rattle.trees.specs.Sound.{SoundSpecies}
-use Rattle.trees.proofs.Bools.{or-left, or-right, or-cases}
-use Rattle.trees.proofs.Judged.{is-fresh}
-use Rattle.judges.specs.Searches.{taxonAt, knownTaxon}
-use Rattle.judges.specs.Chains.{Alone}
-use Rattle.judges.specs.Homes.{Homed, AllKnown, AllBelow, homeBy}
-use Rattle.judges.proofs.Tests.{taxon-cases, fresh-same}
+use Rattle.trees.proofs.Bools.{or-left, or-right}
+use Rattle.trees.proofs.Soundness.{is-fresh}
+use Rattle.homes.specs.Homes.{Homed}
+use Rattle.taxa.specs.Searches.{taxonAt, knownTaxon}
+use Rattle.taxa.specs.Chains.{Alone, AllKnown}
+use Rattle.taxa.proofs.Tests.{taxon-cases, fresh-same}
 
 pub homed-known : {st gt pl : List ℕ} → Homed st gt pl → AllKnown st gt
 unfolding knownTaxon
@@ -36,12 +36,4 @@ species-alone {sp} {st} S =
     record {
       few = omega arith;
       fresh = λ i h. rw (fresh-same (S .tree) i (omega arith)) (is-fresh sp st i (λ e j l f q. let z = S .once i j (omega arith) (omega arith) e f (sym q) in omega arith));
-    }
-
-pub homes-here : {st gt pl : List ℕ} → AllBelow pl (length gt) (length st) → ((g : ℕ) → g < length gt → T (homeBy st gt pl g)) → Homed st gt pl
-unfolding homeBy
-homes-here {st} {gt} {pl} B f =
-    record {
-      home = λ g h n.
-          (B .below g h, elim (or-cases (eqb (taxon gt g) 0) (eqb (taxon st (getD pl g 0)) (taxon gt g)) (f g h)) [ inl z ↦ absurd (n (eqb→eq _ 0 z)) | inr z ↦ eqb→eq _ _ z ]);
     }

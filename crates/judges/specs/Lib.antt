@@ -1,5 +1,1 @@
-pub mod Answers
-pub mod Counts
-pub mod Searches
-pub mod Chains
-pub mod Homes
+pub mod Promises

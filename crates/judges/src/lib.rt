@@ -2,46 +2,15 @@
 //
 // Each answers `Sound`, or the first refusal of 01's order: species 1 to 5, gene 1, 2, 3, 4, 6, each number over the whole
 // table before the next. Nothing is asked of a caller of `judge_species` and `judge_pair`, and nothing is lent.
-
-pub mod homes;
-mod passes;
-mod shape;
-mod taxa;
-
 ghost use mathlib.Core.Path.{_≡_};
 ghost use lib.Dec.{T};
-ghost use Rattle.trees.specs.Rulings.{verdict};
 ghost use Rattle.trees.specs.Sound.{SoundSpecies};
 ghost use Rattle.trees.specs.Tables.{pair};
-ghost use Rattle.trees.specs.Rules.{sized, speciesRules, familyRules, pairRules};
-ghost use Rattle.judges.specs.Answers.{judgedOf};
-ghost use Rattle.judges.specs.Searches.{taxonAt};
-ghost use Rattle.judges.specs.Homes.{AllKnown};
-use trees::Refusal;
-use trees::SpeciesNode;
-
-pub enum Judged {
-    Sound,
-    Refused(Refusal),
-}
-
-pub(crate) fn refuse(number: u16, tree: u16, place: usize) -> Judged
-    ensures { λ r. ⌜ r ≡ Judged.Refused (record { number = number; tree = tree; place = place }) ⌝ }
-{
-    let refusal = Refusal {
-        number,
-        tree,
-        place,
-    };
-    Judged::Refused(refusal)
-}
-
-// The species leaf of a taxon: the lowest species node that carries it, or the number of nodes.
-pub fn species_of(species_taxa: &[u32], taxon: u32) -> SpeciesNode
-    ensures { λ r. ⌜ r .0 ≡ taxonAt (now («species_taxa» .entry)) taxon ⌝ }
-{
-    SpeciesNode(taxa::taxon_at(species_taxa, taxon))
-}
+ghost use Rattle.trees.specs.Rules.{sized};
+ghost use Rattle.taxa.specs.Chains.{AllKnown};
+ghost use Rattle.judges.specs.Promises.{JudgeSpeciesMeets, JudgeFamilyMeets, JudgePairMeets};
+use trees::Judged;
+use trees::refuse;
 
 // Rule 1: neither table is empty or over 2,047, and the two agree in length.
 fn sized_tables(parents: &[u16], taxa: &[u32]) -> bool
@@ -58,21 +27,17 @@ fn sized_tables(parents: &[u16], taxa: &[u32]) -> bool
 }
 
 // Species parents and taxa: `Sound`, or the first of refusals 1 to 5.
-pub fn judge_species(parents: &[u16], taxa: &[u32]) -> Judged
-    ensures { λ r. ⌜ judgedOf r ≡ verdict (speciesRules (now (parents .entry)) (now (taxa .entry))) ⌝ }
+pub fn judge_species(species_parents: &[u16], species_taxa: &[u32]) -> Judged
+    ensures { λ r. ⌜ JudgeSpeciesMeets (now («species_parents» .entry)) (now («species_taxa» .entry)) r ⌝ }
 {
-    if !sized_tables(parents, taxa) {
-        return refuse(1, 1, 0);
+    if !sized_tables(species_parents, species_taxa) {
+        return Judged::Refused(refuse(1, 1, 0));
     }
-    let shape = shape::judge_shape(1, parents, taxa);
-    let Judged::Sound = shape else {
-        return shape;
+    let tree = shapes::judge_shape(1, species_parents, species_taxa);
+    let Judged::Sound = tree else {
+        return tree;
     };
-    let a = taxa::first_repeated(taxa);
-    if a < taxa.len() {
-        return refuse(5, 1, a);
-    }
-    Judged::Sound
+    taxa::judge_repeats(species_taxa)
 }
 
 // Gene parents and taxa of a right size, on sound species tables: `Sound`, or the first of refusals 2, 3, 4 and 6. A caller that has
@@ -85,20 +50,16 @@ pub fn judge_family(
     known: bool,
 ) -> Judged
     requires { ⌜ SoundSpecies (now «species_parents») (now «species_taxa») × T (sized (now «gene_parents») (now «gene_taxa»)) × (T known → AllKnown (now «species_taxa») (now «gene_taxa»)) ⌝ }
-    ensures { λ r. ⌜ judgedOf r ≡ verdict (familyRules (pair (now («species_parents» .entry)) (now («species_taxa» .entry)) (now («gene_parents» .entry)) (now («gene_taxa» .entry)))) ⌝ }
+    ensures { λ r. ⌜ JudgeFamilyMeets (pair (now («species_parents» .entry)) (now («species_taxa» .entry)) (now («gene_parents» .entry)) (now («gene_taxa» .entry))) r ⌝ }
 {
-    let shape = shape::judge_shape(2, gene_parents, gene_taxa);
-    let Judged::Sound = shape else {
-        return shape;
+    let genes = shapes::judge_shape(2, gene_parents, gene_taxa);
+    let Judged::Sound = genes else {
+        return genes;
     };
     if known {
         return Judged::Sound;
     }
-    let a = taxa::first_unknown(species_taxa, gene_taxa);
-    if a < gene_taxa.len() {
-        return refuse(6, 2, a);
-    }
-    Judged::Sound
+    taxa::judge_known(species_taxa, gene_taxa)
 }
 
 // Species tables, then gene tables on them: `Sound`, or the first of species 1 to 5 and gene 1, 2, 3, 4, 6.
@@ -108,14 +69,14 @@ pub fn judge_pair(
     gene_parents: &[u16],
     gene_taxa: &[u32],
 ) -> Judged
-    ensures { λ r. ⌜ judgedOf r ≡ verdict (pairRules (pair (now («species_parents» .entry)) (now («species_taxa» .entry)) (now («gene_parents» .entry)) (now («gene_taxa» .entry)))) ⌝ }
+    ensures { λ r. ⌜ JudgePairMeets (pair (now («species_parents» .entry)) (now («species_taxa» .entry)) (now («gene_parents» .entry)) (now («gene_taxa» .entry))) r ⌝ }
 {
     let species = judge_species(species_parents, species_taxa);
     let Judged::Sound = species else {
         return species;
     };
     if !sized_tables(gene_parents, gene_taxa) {
-        return refuse(1, 2, 0);
+        return Judged::Refused(refuse(1, 2, 0));
     }
     judge_family(
         species_parents,

@@ -1,30 +1,36 @@
--- What each search of the judge means for its ruling. Assumes nothing.
+-- What each step of the judge means for its ruling. Assumes nothing.
 use Prim.Native.Nat.{ℕ, _≤_, _<_}
 use native.Mathlib.Omega.{arith}
 use native.Mathlib.Decide.{ℕ-discrete}
 use mathlib.Core.Path.{_≡_, refl, sym, ap, _∙_}
+use mathlib.Core.Logic.{inl, inr}
 use mathlib.Core.Bool.{false}
 use mathlib.Core.List.{List, [], _∷_}
-use lib.ListN.{length, getD, replicate}
+use lib.ListN.{length, getD}
+use lib.Dec.{eqb}
 use borrow.Author.Tests.{le-leb, eq-eqb}
-use Rattle.trees.specs.Lists.{lowest}
-use Rattle.trees.specs.Rulings.{Ruling, accepted, refused, Rule, whole, each, ruling, verdict, Fine, fine, numberOf, treeOf, Passes, Every, done, and}
+use Rattle.trees.specs.Rulings.{accepted, refused, Rule, whole, each, ruling, verdict, fine, numberOf, treeOf, Passes, Every}
 use Rattle.trees.specs.Tables.{Pair, taxon}
-use Rattle.trees.specs.Trees.{Leaf}
+use Rattle.trees.specs.Trees.{Inner}
 use Rattle.trees.specs.Rules.{pairRules}
-use Rattle.trees.proofs.Bools.{true-T}
-use Rattle.trees.proofs.Lists.{lowest-same, lowest-none}
-use Rattle.trees.proofs.Rulings.{ruling-pass, ruling-fail, ruling-all, ruling-stays, ruling-accepted, ruling-passes, each-fails, each-passes}
-use Rattle.trees.proofs.Judged.{pair-accepted}
+use Rattle.trees.specs.Answers.{judgedOf}
+use Rattle.trees.specs.declared.Refusal.{Refusal}
+use Rattle.trees.specs.declared.Judged.{Judged}
+use Rattle.trees.specs.declared.Judged.the-variants.{Sound, Refused}
+use Rattle.trees.proofs.Bools.{true-T, or-left, or-right}
+use Rattle.trees.proofs.Lists.{lowest-same}
+use Rattle.trees.proofs.Rulings.{every-head, ruling-pass, ruling-fail, ruling-all, ruling-stays, ruling-accepted, ruling-passes, one-passed, one-same}
+use Rattle.trees.proofs.Soundness.{pair-accepted}
+use Rattle.homes.specs.Homes.{homedBy, Homed}
 use Rattle.histories.specs.Histories.{History, told, everyNode}
-use Rattle.histories.specs.Rules.{roomy, fitting, homed, nested, parted, placed, descentRules, offerRules, OfferCounts, offerCounts, offerRuling}
-use Rattle.histories.proofs.Judged.{descent-legal, placed-is, right-kind-leaf, fitting-is, nested-is, parted-is}
-use Rattle.counts.specs.Tallies.{Counted, historyTally, Story}
-use Rattle.judges.specs.Homes.{Homed}
-use Rattle.offers.specs.Tests.{fittingBy, homedBy, nestedBy, partedBy, Placed, Fitting, Nesting, Nested}
-use Rattle.offers.specs.Codes.{Quick, Nests}
+use Rattle.histories.specs.Rules.{roomy, fitting, homed, nested, parted, descentRules, offerRules, OfferCounts, offerCounts, offerRuling}
+use Rattle.histories.proofs.Judged.{descent-legal, placed-is, right-kind-leaf, fitting-is}
+use Rattle.counts.specs.Tallies.{Totals, historyTally, Story}
+use Rattle.fitting.specs.Tests.{fittingBy}
+use Rattle.sides.specs.Tests.{nestedBy, partedBy}
+use Rattle.fitting.specs.Promises.{Placed, Fitting, JudgeFittingMeets, JudgeHomesMeets}
+use Rattle.sides.specs.Promises.{Nestable, JudgeSidesMeets}
 use Rattle.offers.specs.Answers.{Offerable}
-use Rattle.offers.proofs.Steps.{homed-inner, homed-leaf}
 use Rattle.offers.proofs.Tests.{fitting-same, homed-same, nested-same, parted-same}
 
 module _ {w : Pair} {pl lb : List ℕ} (O : Offerable w pl lb) where
@@ -33,9 +39,6 @@ module _ {w : Pair} {pl lb : List ℕ} (O : Offerable w pl lb) where
 
   abbrev q : ℕ
   q = length (w .gp)
-
-  abbrev all : Ruling Fine
-  all = verdict (descentRules w everyNode h)
 
   abbrev rule8 : Rule
   rule8 = each 8 2 q (fitting w everyNode h)
@@ -62,118 +65,88 @@ module _ {w : Pair} {pl lb : List ℕ} (O : Offerable w pl lb) where
     },
   )
 
-  as-8 : (v : ℕ) → v ≡ lowest (fittingBy (length (w .sp)) (w .gt) pl lb) (length (w .gt)) → v ≡ lowest (fitting w everyNode h) q
-  as-8 v e =
-      e ∙ ap (λ n. lowest (fittingBy (length (w .sp)) (w .gt) pl lb) n) even
-      ∙ lowest-same (fittingBy (length (w .sp)) (w .gt) pl lb) (fitting w everyNode h) q (fitting-same (O .sound) pl lb)
+  -- the rule over the tables, judged by itself, is rule 8
+  as-8 : verdict (each 8 2 (length (w .gt)) (fittingBy (length (w .sp)) (w .gt) pl lb) ∷ []) ≡ verdict (rule8 ∷ [])
+  as-8 =
+      ap (λ n. verdict (each 8 2 n (fittingBy (length (w .sp)) (w .gt) pl lb) ∷ [])) even
+      ∙ one-same 8 2 q (fittingBy (length (w .sp)) (w .gt) pl lb) (fitting w everyNode h) (fitting-same (O .sound) pl lb)
 
-  pub descent-8 : (v : ℕ) → v ≡ lowest (fittingBy (length (w .sp)) (w .gt) pl lb) (length (w .gt)) → v < q → all ≡ refused 8 2 v
-  unfolding descentRules numberOf treeOf
-  descent-8 v e l = ruling-fail rule8 _ fine v (each-fails 8 2 q (fitting w everyNode h) v (as-8 v e) l)
-
-  -- rule 8 has passed
-  module _ (a : ℕ) (ea : a ≡ lowest (fittingBy (length (w .sp)) (w .gt) pl lb) (length (w .gt))) (la : q ≤ a) where
-    passed-8 : Passes rule8
-    passed-8 = each-passes 8 2 q (fitting w everyNode h) a (as-8 a ea) la
-
-    pub places-in : (g : ℕ) → g < q → getD pl g 0 < length (w .sp)
-    places-in g l = ((placed-is w everyNode h g) .0 ((fitting-is w everyNode h g) .0 (passed-8 g l) .0)) .0
-
-    leaf-kinds : (g : ℕ) → g < q → Leaf (w .gp) g → getD lb g 0 ≡ 0
-    leaf-kinds g l e = (right-kind-leaf w h g e) .0 ((fitting-is w everyNode h g) .0 (passed-8 g l) .1)
-
-    pub placed-here : Placed (w .st) (w .gt) pl
-    placed-here =
-        record {
-          room = omega (arith, even, O .places-room);
-          inside = λ g l. omega (arith, places-in g (omega (arith, even)), O .sound .species .tree .even);
-        }
-
-    past-8 : all ≡ ruling (rule9 ∷ rule10 ∷ rule11 ∷ []) fine
+  -- what rule 8 answers
+  module _ (r : Judged) (e : JudgeFittingMeets (length (w .sp)) (w .gt) pl lb r) where
+    pub stopped-8 : (f : Refusal) → r ≡ Refused f → judgedOf r ≡ verdict (descentRules w everyNode h)
     unfolding descentRules
-    past-8 = ruling-pass rule8 _ fine passed-8
+    stopped-8 f z =
+        ap judgedOf z ∙ sym (ruling-stays (rule8 ∷ []) (rule9 ∷ rule10 ∷ rule11 ∷ []) fine fine (f .number) (f .tree) (f .place) (sym as-8 ∙ sym e ∙ ap judgedOf z))
 
-    as-9 : (v : ℕ) → v ≡ lowest (homedBy (w .st) (w .gt) pl) (length (w .gt)) → v ≡ lowest (homed w h) q
-    as-9 v e =
-        e ∙ ap (λ n. lowest (homedBy (w .st) (w .gt) pl) n) even
-        ∙ lowest-same (homedBy (w .st) (w .gt) pl) (homed w h) q (homed-same (O .sound) pl lb places-in)
+    -- it has passed
+    module _ (z : r ≡ Sound) where
+      passed-8 : Passes rule8
+      passed-8 = every-head ((ruling-accepted (rule8 ∷ []) fine fine (sym as-8 ∙ sym e ∙ ap judgedOf z)) .0)
 
-    pub descent-9 : (v : ℕ) → v ≡ lowest (homedBy (w .st) (w .gt) pl) (length (w .gt)) → v < q → all ≡ refused 9 2 v
-    unfolding numberOf treeOf
-    descent-9 v e l = past-8 ∙ ruling-fail rule9 _ fine v (each-fails 9 2 q (homed w h) v (as-9 v e) l)
+      places-in : (g : ℕ) → g < q → getD pl g 0 < length (w .sp)
+      places-in g l = ((placed-is w everyNode h g) .0 ((fitting-is w everyNode h g) .0 (passed-8 g l) .0)) .0
 
-    pub nesting-here : (sides : List ℕ) → sides ≡ replicate 2047 65534 → Nesting (w .sp) (w .gp) pl sides
-    nesting-here sides e =
-        record { tree = (w .st, O .sound .species .tree); few = O .sound .genes .few; room = O .places-room; placed = places-in; fresh = e }
+      -- a leaf is labelled 0, so a speciation is no leaf
+      inner-kinds : (g : ℕ) → g < q → getD lb g 0 ≡ 1 → Inner (w .gp) g
+      inner-kinds g l k =
+          elim (O .sound .genes .two g l) [
+            | inl y ↦ absurd (omega (arith, (right-kind-leaf w h g y) .0 ((fitting-is w everyNode h g) .0 (passed-8 g l) .1)))
+            | inr i ↦ i
+          ]
 
-    pub quick-here : Quick (w .sp) (w .gp) pl lb
-    quick-here =
-        record {
-          species = (w .st, O .sound .species .tree);
-          genes = (w .gt, O .sound .genes);
-          places-room = O .places-room;
-          labels-room = O .labels-room;
-          placed = places-in;
-        }
+      pub placed-here : Placed (w .st) (w .gt) pl
+      placed-here =
+          record {
+            room = omega (arith, even, O .places-room);
+            inside = λ g l. omega (arith, places-in g (omega (arith, even)), O .sound .species .tree .even);
+          }
 
-    -- rule 9 has passed
-    module _ (b : ℕ) (eb : b ≡ lowest (homedBy (w .st) (w .gt) pl) (length (w .gt))) (lb′ : q ≤ b) where
-      passed-9 : Passes rule9
-      passed-9 = each-passes 9 2 q (homed w h) b (as-9 b eb) lb′
+      pub nestable-here : Nestable (w .sp) (w .gp) pl lb
+      nestable-here =
+          record {
+            species = (w .st, O .sound .species .tree);
+            genes = (w .gt, O .sound .genes);
+            places-room = O .places-room;
+            labels-room = O .labels-room;
+            placed = places-in;
+            kinds = inner-kinds;
+          }
 
-      past-9 : all ≡ ruling (rule10 ∷ rule11 ∷ []) fine
-      past-9 = past-8 ∙ ruling-pass rule9 _ fine passed-9
+      past-8 : verdict (descentRules w everyNode h) ≡ verdict (rule9 ∷ rule10 ∷ rule11 ∷ [])
+      unfolding descentRules
+      past-8 = ruling-pass rule8 (rule9 ∷ rule10 ∷ rule11 ∷ []) fine passed-8
 
-      -- rules 10 and 11 hold everywhere
-      pub descent-quick : Nests (w .sp) (w .gp) pl lb → all ≡ accepted fine
-      descent-quick N =
-          past-9 ∙ ruling-passes (rule10 ∷ rule11 ∷ []) fine
-          (and (λ c l. (nested-is (O .sound) h c) .1 (N .descent c l)) (and (λ g l. (parted-is (O .sound) h g) .1 (N .sides g l)) done))
+      as-9 : verdict (each 9 2 (length (w .gt)) (homedBy (w .st) (w .gt) pl) ∷ []) ≡ verdict (rule9 ∷ [])
+      as-9 =
+          ap (λ n. verdict (each 9 2 n (homedBy (w .st) (w .gt) pl) ∷ [])) even
+          ∙ one-same 9 2 q (homedBy (w .st) (w .gt) pl) (homed w h) (homed-same (O .sound) pl lb places-in)
 
-      as-10 : (v : ℕ) → v ≡ lowest (nestedBy (w .sp) (w .gp) pl) q → v ≡ lowest (nested w h) q
-      as-10 v e = e ∙ lowest-same (nestedBy (w .sp) (w .gp) pl) (nested w h) q (nested-same (O .sound) pl lb places-in)
+      -- what rule 9 answers
+      module _ (s : Judged) (d : JudgeHomesMeets (w .st) (w .gt) pl s) where
+        pub stopped-9 : (f : Refusal) → s ≡ Refused f → judgedOf s ≡ verdict (descentRules w everyNode h)
+        stopped-9 f y =
+            ap judgedOf y
+            ∙ sym (past-8 ∙ ruling-stays (rule9 ∷ []) (rule10 ∷ rule11 ∷ []) fine fine (f .number) (f .tree) (f .place) (sym as-9 ∙ sym d ∙ ap judgedOf y))
 
-      pub descent-10 : (v : ℕ) (sides : List ℕ) → Nested (w .sp) (w .gp) pl sides v → v < q → all ≡ refused 10 2 v
-      unfolding numberOf treeOf
-      descent-10 v sides N l = past-9 ∙ ruling-fail rule10 _ fine v (each-fails 10 2 q (nested w h) v (as-10 v (N .found)) l)
+        -- it has passed: rules 10 and 11 are left
+        pub descent-rest : s ≡ Sound → (t : Judged) → JudgeSidesMeets (w .sp) (w .gp) pl lb t → judgedOf t ≡ verdict (descentRules w everyNode h)
+        unfolding ruling
+        descent-rest y t c =
+            c
+            ∙ rw (lowest-same (nestedBy (w .sp) (w .gp) pl) (nested w h) q (nested-same (O .sound) pl lb places-in), lowest-same (partedBy (w .sp) (w .gp) pl lb) (parted w h) q (parted-same (O .sound) pl lb places-in))
+            (sym (past-8 ∙ ruling-pass rule9 (rule10 ∷ rule11 ∷ []) fine (every-head ((ruling-accepted (rule9 ∷ []) fine fine (sym as-9 ∙ sym d ∙ ap judgedOf y)) .0))))
 
-      -- rule 10 has passed
-      module _ (d : ℕ) (sides : List ℕ) (N : Nested (w .sp) (w .gp) pl sides d) (ld : q ≤ d) where
-        passed-10 : Passes rule10
-        passed-10 = each-passes 10 2 q (nested w h) d (as-10 d (N .found)) ld
-
-        past-10 : all ≡ ruling (rule11 ∷ []) fine
-        past-10 = past-9 ∙ ruling-pass rule10 _ fine passed-10
-
-        as-11 : (v : ℕ) → v ≡ lowest (partedBy lb sides) q → v ≡ lowest (parted w h) q
-        as-11 v e = e ∙ lowest-same (partedBy lb sides) (parted w h) q (parted-same (O .sound) pl lb places-in leaf-kinds sides (N .sided ld))
-
-        pub descent-11 : (v : ℕ) → v ≡ lowest (partedBy lb sides) q → v < q → all ≡ refused 11 2 v
-        unfolding numberOf treeOf
-        descent-11 v e l = past-10 ∙ ruling-fail rule11 [] fine v (each-fails 11 2 q (parted w h) v (as-11 v e) l)
-
-        pub sides-room : q ≤ length sides
-        sides-room = omega (arith, N .sided ld .size, O .sound .genes .few)
-
-        -- and rule 11
-        module _ (f : ℕ) (ef : f ≡ lowest (partedBy lb sides) q) (lf : q ≤ f) where
-          passed-11 : Passes rule11
-          passed-11 = each-passes 11 2 q (parted w h) f (as-11 f ef) lf
-
-          pub descent-right : all ≡ accepted fine
-          unfolding ruling
-          descent-right = past-10 ∙ ruling-pass rule11 [] fine passed-11
+-- leaves that are known to be at species nodes which carry their taxa are at home
+pub leaves-known : (st gt pl : List ℕ) → Homed st gt pl → accepted fine ≡ verdict (each 9 2 (length gt) (homedBy st gt pl) ∷ [])
+unfolding homedBy
+leaves-known st gt pl H =
+    sym (one-passed 9 2 (length gt) (homedBy st gt pl)
+    (λ g l. elim (ℕ-discrete (taxon gt g) 0) [
+      | yes e ↦ or-left (eqb (taxon gt g) 0) (eqb (taxon st (getD pl g 0)) (taxon gt g)) (true-T (eq-eqb (taxon gt g) 0 e))
+      | no n ↦ or-right (eqb (taxon gt g) 0) (eqb (taxon st (getD pl g 0)) (taxon gt g)) (true-T (eq-eqb (taxon st (getD pl g 0)) (taxon gt g) (H .home g l n .1)))
+    ]))
 
 -- ---- the rules judged, then the counts
-
--- a leaf that is at a species node which carries its taxon is at home
-pub homed-known : (st gt pl : List ℕ) → Homed st gt pl → lowest (homedBy st gt pl) (length gt) ≡ length gt
-homed-known st gt pl H =
-    lowest-none (homedBy st gt pl) (length gt)
-    (λ g l. elim (ℕ-discrete (taxon gt g) 0) [
-      | yes e ↦ true-T (sym (homed-inner st gt pl g e))
-      | no n ↦ true-T (sym (homed-leaf st gt pl g n) ∙ eq-eqb (taxon st (getD pl g 0)) (taxon gt g) (H .home g l n .1))
-    ])
 
 module _ {w : Pair} {pl lb : List ℕ} (O : Offerable w pl lb) where
   abbrev rules : List Rule
@@ -200,7 +173,7 @@ module _ {w : Pair} {pl lb : List ℕ} (O : Offerable w pl lb) where
         }
 
 -- the counts from the tally of the tables
-pub offer-counts : (w : Pair) (k : History) (t : Counted) → t ≡ historyTally w k
+pub offer-counts : (w : Pair) (k : History) (t : Totals) → t ≡ historyTally w k
     → _≡_ {A = OfferCounts} (record { duplications = t .duplications; losses = t .losses; speciations = t .speciations }) (offerCounts w k)
 unfolding offerCounts historyTally
 offer-counts w k t e = rw e

@@ -1,10 +1,3 @@
-pub mod Sides
 pub mod Tests
-pub mod Steps
-pub mod Runs
-pub mod Subtrees
-pub mod Wrongs
-pub mod Fits
-pub mod Codes
 pub mod Descents
 pub mod One

@@ -1,5 +1,5 @@
 -- What the judge of an offered history answers, in the paper's terms.
---   countsOf c  == the counts handed back, as the paper's
+--   offeredCounts c  == the counts handed back, as the paper's
 --   offeredOf r == the answer: the counts, or number, tree and place
 --   Offerable   <-> what judging on sound trees needs
 -- Assumes nothing.
@@ -14,11 +14,11 @@ use Rattle.offers.specs.declared.HistoryCounts.{HistoryCounts}
 use Rattle.offers.specs.declared.Offered.{Offered}
 use Rattle.offers.specs.declared.Offered.the-variants.{Legal, Refused}
 
-abbrev pub countsOf : HistoryCounts → OfferCounts
-countsOf c = record { duplications = c .duplications; losses = c .losses; speciations = c .speciations }
+abbrev pub offeredCounts : HistoryCounts → OfferCounts
+offeredCounts c = record { duplications = c .duplications; losses = c .losses; speciations = c .speciations }
 
 abbrev pub offeredOf : Offered → Ruling OfferCounts
-offeredOf (Legal c) = accepted (countsOf c)
+offeredOf (Legal c) = accepted (offeredCounts c)
 offeredOf (Refused r) = refusedBy r
 
 pub record Offerable (w : Pair) (places labels : List ℕ) : Type 0 where

@@ -1,5 +1,2 @@
-pub mod Sides
-pub mod Tests
-pub mod Runs
-pub mod Codes
 pub mod Answers
+pub mod Promises

@@ -1,23 +1,13 @@
 // The judge of an offered history: is it legal, and what does it count?
-mod fitting;
-mod nesting;
-mod positions;
-mod searches;
-
-ghost use mathlib.Core.Path.{_≡_};
-ghost use lib.ListN.{length};
 ghost use lib.Dec.{T};
-ghost use Rattle.trees.specs.Lists.{lowest};
-ghost use Rattle.trees.specs.Rulings.{ruling, refused, verdict};
 ghost use Rattle.trees.specs.Tables.{pair};
-ghost use Rattle.judges.specs.Answers.{judgedOf};
-ghost use Rattle.judges.specs.Homes.{Homed};
-ghost use Rattle.histories.specs.Histories.{told, everyNode};
-ghost use Rattle.histories.specs.Rules.{descentRules, offerCounts, offerRuling};
-ghost use Rattle.offers.specs.Tests.{homedBy, Placed};
-ghost use Rattle.offers.specs.Answers.{offeredOf, Offerable};
-use judges::Judged;
+ghost use Rattle.homes.specs.Homes.{Homed};
+ghost use Rattle.fitting.specs.Promises.{Placed, JudgeHomesMeets};
+ghost use Rattle.offers.specs.Answers.{Offerable};
+ghost use Rattle.offers.specs.Promises.{JudgeRulesMeets, JudgeDescentMeets, JudgeOfferMeets};
+use trees::Judged;
 use trees::Refusal;
+use trees::refuse;
 
 // What a legal history counts.
 pub struct HistoryCounts {
@@ -31,26 +21,15 @@ pub enum Offered {
     Refused(Refusal),
 }
 
-// A refusal at a node of the gene tree.
-fn refuse(number: u16, place: usize) -> Judged
-    ensures { λ r. ⌜ judgedOf r ≡ refused number 2 place ⌝ }
-{
-    Judged::Refused(Refusal {
-        number,
-        tree: 2,
-        place,
-    })
-}
-
-// Rule 9: the lowest gene leaf that is not at its species, or the number of nodes; not searched for if each is known to be.
-fn find_unhomed(species_taxa: &[u32], gene_taxa: &[u32], places: &[u16], homed: bool) -> usize
+// Rule 9, where rule 8 holds; not tested if it is known that each leaf is at its species.
+fn judge_leaves(species_taxa: &[u32], gene_taxa: &[u32], places: &[u16], homed: bool) -> Judged
     requires { ⌜ Placed (now «species_taxa») (now «gene_taxa») (now places) × (T homed → Homed (now «species_taxa») (now «gene_taxa») (now places)) ⌝ }
-    ensures { λ r. ⌜ r ≡ lowest (homedBy (now («species_taxa» .entry)) (now («gene_taxa» .entry)) (now (places .entry))) (length (now («gene_taxa» .entry))) ⌝ }
+    ensures { λ r. ⌜ JudgeHomesMeets (now («species_taxa» .entry)) (now («gene_taxa» .entry)) (now (places .entry)) r ⌝ }
 {
     if homed {
-        return gene_taxa.len();
+        return Judged::Sound;
     }
-    searches::first_unhomed(species_taxa, gene_taxa, places)
+    fitting::judge_homes(species_taxa, gene_taxa, places)
 }
 
 // The rules of descent 8 to 11 on two sound trees, with tables that are long enough, and nothing counted. `homed`: it is known that
@@ -66,40 +45,17 @@ pub fn judge_rules(
     homed: bool,
 ) -> Judged
     requires { ⌜ Offerable (pair (now «species_parents») (now «species_taxa») (now «gene_parents») (now «gene_taxa»)) (now places) (now labels) × (T homed → Homed (now «species_taxa») (now «gene_taxa») (now places)) ⌝ }
-    ensures { λ r. ⌜ judgedOf r ≡ verdict (descentRules (pair (now («species_parents» .entry)) (now («species_taxa» .entry)) (now («gene_parents» .entry)) (now («gene_taxa» .entry))) everyNode (told (now (places .entry)) (now (labels .entry)))) ⌝ }
+    ensures { λ r. ⌜ JudgeRulesMeets (now («species_parents» .entry)) (now («species_taxa» .entry)) (now («gene_parents» .entry)) (now («gene_taxa» .entry)) (now (places .entry)) (now (labels .entry)) homed r ⌝ }
 {
-    let q = gene_parents.len();
-    let a = fitting::find_unfitting(species_parents.len(), gene_taxa, places, labels);
-    if a < q {
-        return refuse(8, a);
-    }
-    let b = find_unhomed(species_taxa, gene_taxa, places, homed);
-    if b < q {
-        return refuse(9, b);
-    }
-    if nesting::surely_nested(species_parents, gene_parents, places, labels) {
-        return Judged::Sound;
-    }
-    let mut sides = [65534u16; 2047];
-    let d = searches::first_unnested(species_parents, gene_parents, places, &mut sides);
-    if d < q {
-        return refuse(10, d);
-    }
-    let f = searches::first_unparted(labels, &sides, q);
-    if f < q {
-        return refuse(11, f);
-    }
-    Judged::Sound
-}
-
-fn short_table() -> Offered
-    ensures { λ r. ⌜ r ≡ Offered.Refused (record { number = 7; tree = 0; place = 0 }) ⌝ }
-{
-    Offered::Refused(Refusal {
-        number: 7,
-        tree: 0,
-        place: 0,
-    })
+    let fit = fitting::judge_fitting(species_parents.len(), gene_taxa, places, labels);
+    let Judged::Sound = fit else {
+        return fit;
+    };
+    let leaves = judge_leaves(species_taxa, gene_taxa, places, homed);
+    let Judged::Sound = leaves else {
+        return leaves;
+    };
+    nesting::judge_nesting(species_parents, gene_parents, places, labels)
 }
 
 // The rules of descent 8 to 11 on two sound trees, with tables that are long enough; then what the history counts. The tables on
@@ -113,7 +69,7 @@ pub fn judge_descent(
     labels: &[u16],
 ) -> Offered
     requires { ⌜ Offerable (pair (now «species_parents») (now «species_taxa») (now «gene_parents») (now «gene_taxa»)) (now places) (now labels) ⌝ }
-    ensures { λ r. ⌜ offeredOf r ≡ ruling (descentRules (pair (now («species_parents» .entry)) (now («species_taxa» .entry)) (now («gene_parents» .entry)) (now («gene_taxa» .entry))) everyNode (told (now (places .entry)) (now (labels .entry)))) (offerCounts (pair (now («species_parents» .entry)) (now («species_taxa» .entry)) (now («gene_parents» .entry)) (now («gene_taxa» .entry))) (told (now (places .entry)) (now (labels .entry)))) ⌝ }
+    ensures { λ r. ⌜ JudgeDescentMeets (now («species_parents» .entry)) (now («species_taxa» .entry)) (now («gene_parents» .entry)) (now («gene_taxa» .entry)) (now (places .entry)) (now (labels .entry)) r ⌝ }
 {
     let judged = judge_rules(
         species_parents,
@@ -152,17 +108,17 @@ pub fn judge_offer(
     places: &[u16],
     labels: &[u16],
 ) -> Offered
-    ensures { λ r. ⌜ offeredOf r ≡ offerRuling (pair (now («species_parents» .entry)) (now («species_taxa» .entry)) (now («gene_parents» .entry)) (now («gene_taxa» .entry))) (now (places .entry)) (now (labels .entry)) ⌝ }
+    ensures { λ r. ⌜ JudgeOfferMeets (now («species_parents» .entry)) (now («species_taxa» .entry)) (now («gene_parents» .entry)) (now («gene_taxa» .entry)) (now (places .entry)) (now (labels .entry)) r ⌝ }
 {
     let judged = judges::judge_pair(species_parents, species_taxa, gene_parents, gene_taxa);
     if let Judged::Refused(r) = judged {
         return Offered::Refused(r);
     }
     if places.len() < gene_parents.len() {
-        return short_table();
+        return Offered::Refused(refuse(7, 0, 0));
     }
     if labels.len() < gene_parents.len() {
-        return short_table();
+        return Offered::Refused(refuse(7, 0, 0));
     }
     judge_descent(
         species_parents,

@@ -11,8 +11,8 @@ use lib.Dec.{T}
 use borrow.Author.Tests.{lt-ltb, le-ltb}
 use Rattle.trees.specs.Lists.{all, pick}
 use Rattle.trees.proofs.Bools.{T-true}
-use Rattle.reading.specs.Numbers.{digit, spelled, value, digitsOf, decimal}
-use Rattle.reading.proofs.Digits.{is-digit, all-append, value-more}
+use Rattle.numbers.specs.Numbers.{digit, spelled, value, digitsOf, decimal}
+use Rattle.numbers.proofs.Digits.{is-digit, all-append, value-more}
 
 -- more room for digits than needed changes nothing
 digits-same : (k m n : ℕ) → n < k → n < m → digitsOf k n ≡ digitsOf m n

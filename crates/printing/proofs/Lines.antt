@@ -9,7 +9,7 @@ use lib.ListN.{length, length-append}
 use Rattle.trees.specs.Lists.{range}
 use Rattle.trees.proofs.Lists.{range-more}
 use Rattle.histories.specs.Histories.{History}
-use Rattle.reading.specs.Numbers.{decimal}
+use Rattle.numbers.specs.Numbers.{decimal}
 use Rattle.histories.specs.Rules.{Counts}
 use Rattle.printing.specs.Printing.{ended, letter, nodeLine, historyLines, countsLine, refusedWord, refusedLine}
 use Rattle.printing.specs.Putting.{Put}

@@ -10,7 +10,7 @@ use lib.Seq.{sets, length-sets, sets-eq, set-comm}
 use borrow.Author.Tests.{le-leb, lt-leb}
 use Rattle.trees.specs.Lists.{pick}
 use Rattle.trees.specs.Lent.{replaced}
-use Rattle.reading.specs.Numbers.{decimal}
+use Rattle.numbers.specs.Numbers.{decimal}
 use Rattle.printing.specs.Printing.{ended}
 use Rattle.printing.specs.Putting.{Put, Outcome, outcome}
 use Rattle.printing.proofs.Decimal.{decimal-low, decimal-high, decimal-fewer, decimal-one, decimal-some}

@@ -12,13 +12,13 @@ use lib.Dec.{T}
 use borrow.Author.Tests.{lt-ltb}
 use Rattle.trees.specs.Lists.{total}
 use Rattle.trees.proofs.Bools.{T-true, true-T, and-both}
-use Rattle.reading.specs.Numbers.{value, isNumber, decimal}
-use Rattle.reading.specs.Words.{blank, opens, words}
+use Rattle.numbers.specs.Numbers.{value, isNumber, decimal}
+use Rattle.numbers.specs.Words.{blank, opens, words}
 use Rattle.reading.specs.Reading.{fits}
-use Rattle.reading.specs.Cursor.{wordOf}
-use Rattle.reading.proofs.Digits.{is-number}
-use Rattle.reading.proofs.Words.{word-none, word-opens, words-opens, words-blank}
-use Rattle.reading.proofs.Spelling.{word-digits}
+use Rattle.numbers.specs.Cursor.{wordOf}
+use Rattle.numbers.proofs.Digits.{is-number}
+use Rattle.numbers.proofs.Words.{word-none, word-opens, words-opens, words-blank}
+use Rattle.numbers.proofs.Spelling.{word-digits}
 use Rattle.printing.specs.Printing.{ended}
 use Rattle.printing.specs.Written.{Written, last, closing, more, spaced}
 use Rattle.printing.proofs.Decimal.{decimal-digits, decimal-value, decimal-some, decimal-few}

@@ -1,3 +1,4 @@
 pub mod Printing
 pub mod Putting
 pub mod Written
+pub mod Promises

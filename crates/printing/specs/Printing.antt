@@ -19,7 +19,7 @@ use Rattle.trees.specs.Tables.{Pair}
 use Rattle.trees.specs.Rules.{pairRules}
 use Rattle.histories.specs.Histories.{History, least}
 use Rattle.histories.specs.Rules.{Counts, leastCounts}
-use Rattle.reading.specs.Numbers.{decimal}
+use Rattle.numbers.specs.Numbers.{decimal}
 use Rattle.reading.specs.Reading.{tables, textRuling}
 
 unfoldable pub ended : ℕ → ℕ → List ℕ

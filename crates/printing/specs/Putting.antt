@@ -19,7 +19,7 @@ use Rattle.trees.specs.Lists.{range, pick}
 use Rattle.trees.specs.Lent.{replaced}
 use Rattle.histories.specs.Histories.{told}
 use Rattle.histories.specs.Rules.{Counts}
-use Rattle.reading.specs.Numbers.{decimal}
+use Rattle.numbers.specs.Numbers.{decimal}
 use Rattle.printing.specs.Printing.{historyLines, countsLine}
 
 pub record DigitCount (n r : ℕ) : Type 0 where

@@ -11,8 +11,8 @@ use mathlib.Core.List.{List, [], _∷_, _++_}
 use lib.ListN.{length, getD}
 use lib.Dec.{T}
 use Rattle.trees.specs.Tables.{Pair}
-use Rattle.reading.specs.Numbers.{decimal}
-use Rattle.reading.specs.Words.{blank}
+use Rattle.numbers.specs.Numbers.{decimal}
+use Rattle.numbers.specs.Words.{blank}
 use Rattle.printing.specs.Printing.{ended}
 
 pub data Written : List ℕ → List ℕ → Type 0 where

@@ -4,11 +4,11 @@
 // functions write from the start and answer how many bytes; if the buffer is too short they write nothing and answer 0.
 ghost use mathlib.Core.Path.{_≡_};
 ghost use Prim.Native.Nat.{_+_, _≤_};
-ghost use mathlib.Core.List.{_++_};
 ghost use lib.ListN.{length};
 ghost use Rattle.least.specs.Answers.{countsOf};
-ghost use Rattle.printing.specs.Printing.{ended, letter, nodeLine, countsLine, refusedWord, refusedLine};
-ghost use Rattle.printing.specs.Putting.{DigitCount, LinesSize, CountsSize, toldLines, LinesRoom, Printable, Put, Outcome, outcome};
+ghost use Rattle.printing.specs.Printing.{ended, letter, nodeLine, countsLine, refusedWord};
+ghost use Rattle.printing.specs.Putting.{DigitCount, LinesSize, CountsSize, toldLines, LinesRoom, Printable, Put};
+ghost use Rattle.printing.specs.Promises.{PutNumberMeets, WriteRefusalMeets, WriteHistoryMeets};
 use least::LeastCounts;
 use trees::GeneNode;
 use trees::Refusal;
@@ -28,9 +28,9 @@ fn digit_count(n: u64) -> usize
 }
 
 // The number n and the byte `end` behind it. The digits are written from the last one on.
-fn put_number(n: u64, end: u8, at: usize, out: &mut [u8]) -> usize
+pub fn put_number(n: u64, end: u8, at: usize, out: &mut [u8]) -> usize
     requires { ⌜ at + length (ended n end) ≤ length (now out) ⌝ }
-    ensures { λ r. ⌜ Put at (ended n end) (now (out .entry)) (now (out .exit)) r ⌝ }
+    ensures { λ r. ⌜ PutNumberMeets n end at (now (out .entry)) r (now (out .exit)) ⌝ }
 {
     let stop = at + digit_count(n);
     let mut i = stop;
@@ -119,7 +119,7 @@ fn put_refused(out: &mut [u8]) -> usize
 
 // The one line of a refusal.
 pub fn write_refusal(refusal: Refusal, out: &mut [u8]) -> usize
-    ensures { λ r. ⌜ _≡_ {A = Outcome} (record { written = r; out = now (out .exit) }) (outcome (refusedLine (refusal .number) (refusal .tree) (refusal .place)) (now (out .entry))) ⌝ }
+    ensures { λ r. ⌜ WriteRefusalMeets refusal (now (out .entry)) r (now (out .exit)) ⌝ }
 {
     let number = refusal.number as u64;
     let tree = refusal.tree as u64;
@@ -161,7 +161,7 @@ fn put_counts(counts: LeastCounts, at: usize, out: &mut [u8]) -> usize
 // The lines of all gene nodes, then the line of the counts.
 pub fn write_history(places: &[u16], labels: &[u16], counts: LeastCounts, out: &mut [u8]) -> usize
     requires { ⌜ Printable (now places) (now labels) ⌝ }
-    ensures { λ r. ⌜ _≡_ {A = Outcome} (record { written = r; out = now (out .exit) }) (outcome (toldLines (now (places .entry)) (now (labels .entry)) ++ countsLine (countsOf counts)) (now (out .entry))) ⌝ }
+    ensures { λ r. ⌜ WriteHistoryMeets (now (places .entry)) (now (labels .entry)) counts (now (out .entry)) r (now (out .exit)) ⌝ }
 {
     let size = lines_size(places) + counts_size(counts);
     if out.len() < size {

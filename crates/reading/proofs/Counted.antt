@@ -9,15 +9,15 @@ use borrow.Author.Tests.{lt-leb}
 use Rattle.trees.specs.Rulings.{whole, refused, refusedBy, verdict, fine, numberOf, treeOf, done, and}
 use Rattle.trees.proofs.Bools.{and-both, and-right, clash}
 use Rattle.trees.proofs.Rulings.{ruling-pass, ruling-fail}
-use Rattle.reading.specs.Numbers.{value, isNumber}
-use Rattle.reading.specs.Words.{words}
+use Rattle.numbers.specs.Numbers.{value, isNumber}
+use Rattle.numbers.specs.Words.{words}
 use Rattle.reading.specs.Reading.{word, speciesCount, geneCount, counted, countRules}
 use Rattle.reading.specs.Readers.{SizesRead, SizesBy}
 use Rattle.trees.specs.declared.Refusal.{Refusal}
 use Rattle.reading.specs.declared.Sizes.{Sizes}
 use Rattle.reading.specs.declared.Sizes.the-variants.{Both, Refused}
-use Rattle.reading.proofs.Digits.{and-false}
-use Rattle.reading.proofs.Cursor.{Got}
+use Rattle.numbers.proofs.Digits.{and-false}
+use Rattle.numbers.proofs.Cursor.{Got}
 
 -- what the reader's answer says
 pub sizes-refused : (text : List ℕ) (r : Sizes) (f : Refusal) → r ≡ Refused f → verdict (countRules text) ≡ refusedBy f → SizesBy r text

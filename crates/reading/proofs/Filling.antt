@@ -8,14 +8,14 @@ use mathlib.Core.List.{List, [], _∷_, _++_, append-assoc, map-append}
 use lib.ListN.{length, getD, take, drop, set, replicate, replicate-append-replicate}
 use lib.Seq.{take-length, take-suc-set}
 use Rattle.trees.proofs.Bools.{clash}
-use Rattle.reading.specs.Numbers.{value, isNumber}
-use Rattle.reading.specs.Words.{words}
+use Rattle.numbers.specs.Numbers.{value, isNumber}
+use Rattle.numbers.specs.Words.{words}
 use Rattle.reading.specs.Reading.{treeWidths, fits}
-use Rattle.reading.specs.Cursor.{nothing, numberFrom}
+use Rattle.numbers.specs.Cursor.{nothing, numberFrom}
 use Rattle.reading.specs.Readers.{Taken, FilledBy}
 use Rattle.reading.specs.declared.Filled.{Filled}
 use Rattle.reading.specs.declared.Filled.the-variants.{Past, Malformed}
-use Rattle.reading.proofs.Cursor.{Got, number-none}
+use Rattle.numbers.proofs.Cursor.{Got, number-none}
 use Rattle.reading.proofs.Fits.{narrow-number, wide-none, narrow-none, fits-split, fits-one, fits-none}
 
 -- n + 1 + m entries of one width

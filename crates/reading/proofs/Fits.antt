@@ -10,9 +10,9 @@ use lib.Pow.{pow-mono}
 use lib.Dec.{T, ltb}
 use borrow.Author.Tests.{lt-ltb, le-ltb}
 use Rattle.trees.proofs.Bools.{and-both, and-left, and-right, test, T-true, true-T, clash}
-use Rattle.reading.specs.Numbers.{value, isNumber}
+use Rattle.numbers.specs.Numbers.{value, isNumber}
 use Rattle.reading.specs.Reading.{fits}
-use Rattle.reading.proofs.Digits.{number-is, is-number}
+use Rattle.numbers.proofs.Digits.{number-is, is-number}
 
 -- ---- a number of 32 bits at another width
 

@@ -11,13 +11,13 @@ use lib.Dec.{eqb}
 use borrow.Author.Tests.{eq-eqb, ne-eqb}
 use Rattle.trees.specs.Tables.{Pair, pair}
 use Rattle.trees.proofs.Bools.{clash}
-use Rattle.reading.specs.Numbers.{value}
-use Rattle.reading.specs.Words.{words}
+use Rattle.numbers.specs.Numbers.{value}
+use Rattle.numbers.specs.Words.{words}
 use Rattle.reading.specs.Reading.{treeWidths, widths, fits, tablesOf}
-use Rattle.reading.specs.Cursor.{gap, pastBlanks}
+use Rattle.numbers.specs.Cursor.{gap, pastBlanks}
 use Rattle.reading.specs.Readers.{Taken, TablesRead}
-use Rattle.reading.proofs.Words.{words-opens, gap-words, gap-cases, gap-few}
-use Rattle.reading.proofs.Cursor.{opens-inside}
+use Rattle.numbers.proofs.Words.{words-opens, gap-words, gap-cases, gap-few}
+use Rattle.numbers.proofs.Cursor.{opens-inside}
 use Rattle.reading.proofs.Fits.{fits-split, fits-nil}
 use Rattle.reading.proofs.Filling.{taken-join, short-join}
 

@@ -1,5 +1,4 @@
 -- What the readers answer and leave.
---   numberOf r                 == the number that was read and the place behind it; nothing for `Malformed`
 --   TreeRoom text at par tax   <-> `at` is a place of the text, and the two tables agree in length
 --   TablesRoom text at w       <-> the same of the tables of two trees
 --   Taken text at bs es next   <-> the words from the place `at` up to `next` are numbers of the widths bs, and tell the entries es
@@ -18,20 +17,13 @@ use lib.ListN.{length, drop}
 use lib.Dec.{T}
 use Rattle.trees.specs.Rulings.{refusedBy, verdict, Passes, Every}
 use Rattle.trees.specs.Tables.{Pair}
-use Rattle.reading.specs.Numbers.{value}
-use Rattle.reading.specs.Words.{words}
+use Rattle.numbers.specs.Numbers.{value}
+use Rattle.numbers.specs.Words.{words}
 use Rattle.reading.specs.Reading.{speciesCount, geneCount, widths, fits, tablesOf, countRules}
-use Rattle.reading.specs.Cursor.{Find, found, nothing}
-use Rattle.reading.specs.declared.Number.{Number}
-use Rattle.reading.specs.declared.Number.the-variants as number
 use Rattle.reading.specs.declared.Filled.{Filled}
 use Rattle.reading.specs.declared.Filled.the-variants as filled
 use Rattle.reading.specs.declared.Sizes.{Sizes}
 use Rattle.reading.specs.declared.Sizes.the-variants.{Both, Refused}
-
-abbrev pub numberOf : Number → Find
-numberOf (number.Read v next) = found v next
-numberOf number.Malformed = nothing
 
 pub record TreeRoom (text : List ℕ) (at : ℕ) (par tax : List ℕ) : Type 0 where
   pub inside : at ≤ length text

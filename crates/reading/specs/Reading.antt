@@ -18,8 +18,8 @@ use Rattle.trees.specs.Rulings.{Ruling, Rule, whole, ruling}
 use Rattle.trees.specs.Tables.{Pair, pair}
 use Rattle.trees.specs.Rules.{pairRules}
 use Rattle.histories.specs.Rules.{Counts, leastCounts}
-use Rattle.reading.specs.Numbers.{value, isNumber}
-use Rattle.reading.specs.Words.{words}
+use Rattle.numbers.specs.Numbers.{value, isNumber}
+use Rattle.numbers.specs.Words.{words}
 
 unfoldable pub word : List ℕ → ℕ → List ℕ
 word text i = getD (words text) i []

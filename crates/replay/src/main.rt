@@ -1,9 +1,9 @@
 // Reads requests from standard input, makes the calls, and prints what they answer and leave. docs/REPLAY.md is its manual.
+mod calls;
 mod stored;
 
-use dialogue::Memory;
-use dialogue::Talk;
-
+use talks::Memory;
+use talks::Talk;
 // The requests whose trees and history have been read: 3, 4 and 6.
 fn with_history(
     code: u64,
@@ -17,7 +17,7 @@ fn with_history(
     labels: &mut [u16],
 ) -> Talk {
     if code == 3 {
-        return answers::history(
+        return calls::history(
             memory,
             talk,
             species_parents,
@@ -29,7 +29,7 @@ fn with_history(
         );
     }
     if code == 4 {
-        return answers::offer(
+        return calls::offer(
             memory,
             talk,
             species_parents,
@@ -91,7 +91,7 @@ fn with_trees(
     gene_taxa: &[u32],
 ) -> Talk {
     if code == 2 {
-        return answers::genes(
+        return calls::genes(
             memory,
             talk,
             species_parents,
@@ -101,7 +101,7 @@ fn with_trees(
         );
     }
     if code == 5 {
-        return answers::date(
+        return calls::date(
             memory,
             talk,
             species_parents,
@@ -154,7 +154,7 @@ fn with_species(
     species_taxa: &[u32],
 ) -> Talk {
     if code == 1 {
-        return answers::species(memory, talk, species_parents, species_taxa);
+        return calls::species(memory, talk, species_parents, species_taxa);
     }
     if code == 7 {
         return stored::loaded(memory, talk, species_parents, species_taxa);
@@ -178,7 +178,7 @@ fn request(code: u64, memory: &mut Memory, talk: Talk) -> Talk {
         return stored::host(memory, talk);
     }
     if code == 0 || 8 < code {
-        return dialogue::spoil(talk);
+        return talks::spoil(talk);
     }
     species_tables(code, memory, talk)
 }
@@ -193,12 +193,12 @@ fn turn(memory: &mut Memory, talk: Talk) -> Talk {
     if after.more {
         return after;
     }
-    dialogue::put_text(memory, after, b"bad request\n")
+    showing::put_text(memory, after, b"bad request\n")
 }
 
 // All requests. There are fewer than the loop has turns.
 fn run(memory: &mut Memory) {
-    let mut talk = dialogue::begin();
+    let mut talk = talks::begin();
     let mut left: usize = 1099511627776;
     while 0 < left {
         talk = turn(memory, talk);
@@ -207,7 +207,7 @@ fn run(memory: &mut Memory) {
         }
         left -= 1;
     }
-    dialogue::flush(memory, talk);
+    showing::flush(memory, talk);
 }
 
 fn main() {

@@ -1,13 +1,12 @@
 // The requests about images, 6 to 8: writing, loading, and what the C collector asks. Of a spoiled talk nothing is put.
+use crate::calls;
 use answers::fine;
 use answers::of_refusal;
-use dialogue::Line;
-use dialogue::Memory;
-use dialogue::Talk;
-use images::load;
-use images::load::Loaded;
-use images::write;
-use images::write::Written;
+use loading::Loaded;
+use showing::Line;
+use talks::Memory;
+use talks::Talk;
+use writing::Written;
 
 fn of_written(answer: Written) -> Line {
     match answer {
@@ -27,7 +26,7 @@ fn write_into(
     labels: &[u16],
     image: &mut [u8],
 ) -> Talk {
-    let answer = write::write_image(
+    let answer = writing::write_image(
         species_parents,
         species_taxa,
         gene_parents,
@@ -36,8 +35,8 @@ fn write_into(
         labels,
         image,
     );
-    let then = dialogue::put_line(memory, talk, of_written(answer));
-    dialogue::put_bytes(memory, then, image)
+    let then = showing::put_line(memory, talk, of_written(answer));
+    showing::put_bytes(memory, then, image)
 }
 
 // Code 6.
@@ -92,10 +91,10 @@ fn put_loaded(
     places: &[u16],
     labels: &[u16],
 ) -> Talk {
-    let a = dialogue::put_line(memory, talk, of_loaded(answer));
-    let b = dialogue::put_words(memory, a, gene_parents);
-    let c = dialogue::put_longs(memory, b, gene_taxa);
-    answers::put_history(memory, c, places, labels)
+    let a = showing::put_line(memory, talk, of_loaded(answer));
+    let b = showing::put_words(memory, a, gene_parents);
+    let c = showing::put_longs(memory, b, gene_taxa);
+    calls::put_history(memory, c, places, labels)
 }
 
 fn load_into(
@@ -109,7 +108,7 @@ fn load_into(
     places: &mut [u16],
     labels: &mut [u16],
 ) -> Talk {
-    let answer = load::load_image(
+    let answer = loading::load_image(
         species_parents,
         species_taxa,
         image,
@@ -215,7 +214,7 @@ fn host_tables(memory: &mut Memory, talk: Talk, image: &[u8]) -> Talk {
     let m = tables.first;
     let n = tables.second;
     let line = host_line(image, &parents[..m], &taxa[..n]);
-    dialogue::put_line(memory, tables.talk, line)
+    showing::put_line(memory, tables.talk, line)
 }
 
 // Code 8.

@@ -23,13 +23,14 @@ use Rattle.trees.proofs.Rulings.{rule-cases, ruling-pass, ruling-fail, ruling-a
 use Rattle.histories.specs.Histories.{History, told, least, leastPlaces, leastLabels}
 use Rattle.histories.specs.Rules.{roomy, leastRules, leastCounts, leastRuling}
 use Rattle.histories.proofs.Tables.{length-places, length-labels, getD-places, getD-labels}
-use Rattle.least.specs.Answers.{countsOf, leastOf, leastOutcome}
-use Rattle.least.specs.Answers as least-answers
+use Rattle.least.specs.Answers.{countsOf, leastOf}
+use Rattle.histories.specs.Outcomes.{leastOutcome}
+use Rattle.histories.specs.Outcomes as outcomes
 use Rattle.least.specs.declared.LeastCounts.{LeastCounts}
 use Rattle.least.specs.declared.LeastAnswer.{LeastAnswer}
 use Rattle.least.specs.declared.LeastAnswer.the-variants.{Done, Refused}
 use Rattle.io.specs.Counts.{Counts}
-use Rattle.reading.specs.Words.{words}
+use Rattle.numbers.specs.Words.{words}
 use Rattle.reading.specs.Reading.{speciesCount, geneCount, widths, fits, tables, countRules, textRules, textRuling}
 use Rattle.reading.specs.Readers.{SizesRead, SizesBy, TablesRead, Ready}
 use Rattle.reading.specs.declared.Sizes.{Sizes}
@@ -83,7 +84,7 @@ module _ (w : Pair) where
 
   -- the answer of the call, with places and labels after it
   module _ (few : length (w .gp) ≤ 2047) (r : LeastAnswer) (places labels : List ℕ)
-      (e : _≡_ {A = least-answers.Outcome} (record { answer = leastOf r; places = places; labels = labels }) (leastOutcome w zeros zeros 1 1)) where
+      (e : _≡_ {A = outcomes.Outcome} (record { answer = leastOf r; places = places; labels = labels }) (leastOutcome w zeros zeros 1 1)) where
     answer-is : leastOf r ≡ ruling (pairRules w) (leastCounts w 1 1)
     unfolding leastOutcome
     answer-is = ap (λ o. o .answer) e ∙ roomy-ruling zeros zeros 1 1 (rw zeros-size few) (rw zeros-size few)

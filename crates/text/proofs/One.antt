@@ -6,7 +6,7 @@
 use Prim.Native.Nat.{ℕ, _≤_, _<_}
 use native.Mathlib.Omega.{arith}
 use native.Mathlib.Decide.{decLt}
-use mathlib.Core.Path.{_≡_, sym, ap, _∙_}
+use mathlib.Core.Path.{_≡_, sym, ap}
 use mathlib.Core.Logic.{_↔_}
 use mathlib.Core.List.{List}
 use lib.ListN.{length}
@@ -14,17 +14,16 @@ use borrow.Author.Tests.{le-leb}
 use Rattle.trees.specs.One.{Single}
 use Rattle.trees.specs.Lists.{pick}
 use Rattle.trees.specs.Lent.{replaced}
-use Rattle.trees.proofs.One.{both}
 use Rattle.printing.specs.Printing.{printed}
-use Rattle.printing.specs.Putting.{Outcome, outcome}
+use Rattle.printing.specs.Putting.{outcome}
 use Rattle.printing.proofs.Putting.{outcome-short}
+use Rattle.printing.proofs.One.{put-one}
+use Rattle.text.specs.Promises.{HistoryTextMeets}
 use Rattle.text.proofs.Printed.{printed-some, printed-fits}
 
 module _ (text old : List ℕ) where
-  pub history-text-one : Single (λ (r : ℕ × List ℕ). _≡_ {A = Outcome} (record { written = r .0; out = r .1 }) (outcome (printed text) old))
-  history-text-one a b p q =
-      let e = p ∙ sym q in
-      both a b (ap (λ (o : Outcome). o .written) e) (ap (λ (o : Outcome). o .out) e)
+  pub history-text-one : Single (λ (r : ℕ × List ℕ). HistoryTextMeets text old (r .0) (r .1))
+  history-text-one = put-one (printed text) old
 
   -- there is room for everything
   whole : length (printed text) ≤ length old → outcome (printed text) old ≡ record { written = length (printed text); out = replaced (printed text) old }

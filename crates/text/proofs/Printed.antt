@@ -17,13 +17,13 @@ use Rattle.trees.specs.Sound.{Sound}
 use Rattle.trees.specs.Rules.{shapeRules, speciesRules, familyRules, geneRules, pairRules}
 use Rattle.trees.proofs.Bools.{clash}
 use Rattle.trees.proofs.Rulings.{rule-cases, ruling-pass, ruling-fail, ruling-accepted, every-right, every-head, every-tail}
-use Rattle.trees.proofs.Judged.{pair-sound}
+use Rattle.trees.proofs.Soundness.{pair-sound}
 use Rattle.histories.specs.Histories.{History, least, cost}
 use Rattle.histories.specs.Rules.{leastCounts}
 use Rattle.histories.proofs.Places.{place-node}
 use Rattle.histories.proofs.Bounds.{duplications-few, speciations-few, least-losses-few, least-climbs-few}
-use Rattle.reading.specs.Numbers.{value}
-use Rattle.reading.specs.Words.{words}
+use Rattle.numbers.specs.Numbers.{value}
+use Rattle.numbers.specs.Words.{words}
 use Rattle.reading.specs.Reading.{speciesCount, geneCount, widths, fits, tablesOf, tables, countRules, textRules, textRuling}
 use Rattle.reading.proofs.Counted.{counted-few}
 use Rattle.printing.specs.Printing.{nodeLine, historyLines, countsLine, refusedLine, report, printed}

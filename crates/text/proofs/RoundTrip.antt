@@ -18,11 +18,11 @@ use Rattle.trees.specs.Rules.{pairRules}
 use Rattle.trees.proofs.Bools.{and-both}
 use Rattle.trees.proofs.Lists.{getD-any}
 use Rattle.trees.proofs.Rulings.{ruling-all, ruling-pass, ruling-passes}
-use Rattle.trees.proofs.Judged.{pair-sound}
+use Rattle.trees.proofs.Soundness.{pair-sound}
 use Rattle.histories.specs.Histories.{least}
 use Rattle.histories.specs.Rules.{leastCounts, leastRuling}
-use Rattle.reading.specs.Numbers.{isNumber, decimal}
-use Rattle.reading.specs.Words.{words}
+use Rattle.numbers.specs.Numbers.{isNumber, decimal}
+use Rattle.numbers.specs.Words.{words}
 use Rattle.reading.specs.Reading.{word, speciesCount, geneCount, counted, treeWidths, widths, fits, tables, countRules, textRules, textRuling}
 use Rattle.reading.proofs.Fits.{fits-split}
 use Rattle.reading.proofs.Rest.{tables-four}

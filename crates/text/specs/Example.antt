@@ -14,8 +14,8 @@ use Rattle.trees.specs.Rules.{sized, ordered, paired, marked, fresh, known, sha
 use Rattle.histories.specs.Places.{below, leaves, holds, place}
 use Rattle.histories.specs.Histories.{label, edge, lossesAt, losses, climbsAt, climbs, duplications, speciations, cost}
 use Rattle.histories.specs.Rules.{leastCounts}
-use Rattle.reading.specs.Numbers.{digit, spelled, isNumber, digitsOf, decimal}
-use Rattle.reading.specs.Words.{blank, opens, grown, words}
+use Rattle.numbers.specs.Numbers.{digit, spelled, isNumber, digitsOf, decimal}
+use Rattle.numbers.specs.Words.{blank, opens, grown, words}
 use Rattle.reading.specs.Reading.{word, speciesCount, geneCount, counted, treeWidths, widths, fits, tablesOf, tables, countRules, textRules, textRuling}
 use Rattle.printing.specs.Printing.{ended, letter, nodeLine, historyLines, countsLine, refusedWord, refusedLine, report, printed}
 

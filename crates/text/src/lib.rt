@@ -8,8 +8,9 @@ ghost use lib.ListN.{length};
 ghost use Rattle.io.specs.Counts.{Counts};
 ghost use Rattle.trees.specs.Tables.{pair};
 ghost use Rattle.reading.specs.Readers.{SizesRead, Ready};
-ghost use Rattle.printing.specs.Printing.{answered, printed};
+ghost use Rattle.printing.specs.Printing.{answered};
 ghost use Rattle.printing.specs.Putting.{Outcome, outcome};
+ghost use Rattle.text.specs.Promises.{HistoryTextMeets};
 use least::LeastAnswer;
 use printing::write_history;
 use printing::write_refusal;
@@ -61,7 +62,7 @@ fn answer_rest(
     out: &mut [u8],
 ) -> usize
     requires { ⌜ Ready (now text) next (pair (now «species_parents») (now «species_taxa») (now «gene_parents») (now «gene_taxa»)) ⌝ }
-    ensures { λ r. ⌜ _≡_ {A = Outcome} (record { written = r; out = now (out .exit) }) (outcome (printed (now (text .entry))) (now (out .entry))) ⌝ }
+    ensures { λ r. ⌜ HistoryTextMeets (now (text .entry)) (now (out .entry)) r (now (out .exit)) ⌝ }
 {
     if read_tables(
         text,
@@ -85,7 +86,7 @@ fn answer_rest(
 // A text with its counts p and q read, printed. The four tables stand on the stack, 24,564 bytes, for the same reason.
 fn answer_sized(text: &[u8], p: usize, q: usize, next: usize, out: &mut [u8]) -> usize
     requires { ⌜ SizesRead (now text) p q next ⌝ }
-    ensures { λ r. ⌜ _≡_ {A = Outcome} (record { written = r; out = now (out .exit) }) (outcome (printed (now (text .entry))) (now (out .entry))) ⌝ }
+    ensures { λ r. ⌜ HistoryTextMeets (now (text .entry)) (now (out .entry)) r (now (out .exit)) ⌝ }
 {
     let mut species_parents = [0u16; 2047];
     let mut species_taxa = [0u32; 2047];
@@ -106,7 +107,7 @@ fn answer_sized(text: &[u8], p: usize, q: usize, next: usize, out: &mut [u8]) ->
 // Answers how many bytes these are; the bytes behind them are as they were. If `out` is shorter than that, nothing is written
 // and the answer is 0, which it never is otherwise. 24,598 bytes are always enough.
 pub fn history_text(text: &[u8], out: &mut [u8]) -> usize
-    ensures { λ r. ⌜ _≡_ {A = Outcome} (record { written = r; out = now (out .exit) }) (outcome (printed (now (text .entry))) (now (out .entry))) ⌝ }
+    ensures { λ r. ⌜ HistoryTextMeets (now (text .entry)) (now (out .entry)) r (now (out .exit)) ⌝ }
     ensures { λ r. ⌜ Counts r (now (out .exit)) ⌝ }
 {
     let sizes = read_counts(text);

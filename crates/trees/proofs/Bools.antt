@@ -5,7 +5,7 @@ use mathlib.Core.Path.{_≡_, refl}
 use mathlib.Core.Logic.{_⊎_, inl, inr}
 use mathlib.Core.Bool.{Bool, true, false, _||_, _&&_}
 use lib.Dec.{T}
-use Rattle.trees.specs.Lists.{one}
+use Rattle.trees.specs.Lists.{one, pick}
 
 pub or-right : (a b : Bool) → T b → T (a || b)
 or-right true b t = tt
@@ -50,12 +50,25 @@ T-true {b} t = go b t
 pub true-T : {b : Bool} → b ≡ true → T b
 true-T e = rw e tt
 
+-- a test that passes does not fail
+pub not-both : {A : Type 0} (b : Bool) → T b → b ≡ false → A
+not-both b t e = absurd (rw e at t)
+
 -- two tests that pass together are one
 pub T-same : (a b : Bool) → (T a → T b) → (T b → T a) → a ≡ b
 T-same true true f g = refl
 T-same true false f g = absurd (f tt)
 T-same false true f g = absurd (g tt)
 T-same false false f g = refl
+
+-- a choice that is made
+pub pick-yes : {A : Type 0} (b : Bool) (x y : A) → b ≡ true → pick b x y ≡ x
+unfolding pick
+pick-yes b x y e = rw e
+
+pub pick-no : {A : Type 0} (b : Bool) (x y : A) → b ≡ false → pick b x y ≡ y
+unfolding pick
+pick-no b x y e = rw e
 
 -- `cc` tells two constructors apart by an equation of numbers, from which anything follows
 pub clash : {A : Type 0} → _≡_ {A = ℕ} 0 1 → A

@@ -7,7 +7,8 @@ pub mod Roots
 pub mod Rulings
 pub mod Sound
 pub mod Shape
-pub mod Judged
+pub mod Soundness
 pub mod Lent
 pub mod Spots
 pub mod One
+pub mod Answers

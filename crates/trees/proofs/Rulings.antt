@@ -3,14 +3,15 @@ use Prim.Native.Nat.{ℕ, _≤_, _<_}
 use native.Mathlib.Omega.{arith}
 use mathlib.Core.Path.{_≡_, refl, sym, ap, _∙_}
 use mathlib.Core.Logic.{_⊎_, inl, inr, _↔_}
-use mathlib.Core.Bool.{Bool}
+use mathlib.Core.Bool.{Bool, false}
 use mathlib.Core.List.{List, [], _∷_, _++_}
+use lib.Dec.{T}
 use borrow.Author.Tests.{eq-eqb, ne-eqb}
 use Rattle.trees.specs.Lists.{lowest, pick}
-use Rattle.trees.specs.Rulings.{Ruling, accepted, refused, refusedBy, Rule, whole, each, ruling, numberOf, treeOf, Passes, Fails, Every, done, and}
+use Rattle.trees.specs.Rulings.{Ruling, accepted, refused, refusedBy, Rule, whole, each, ruling, Fine, fine, verdict, numberOf, treeOf, Passes, Fails, Every, done, and}
 use Rattle.trees.specs.declared.Refusal.{Refusal}
 use Rattle.trees.proofs.Bools.{test, T-true, true-T, clash}
-use Rattle.trees.proofs.Lists.{lowest-is, lowest-none, lowest-cases}
+use Rattle.trees.proofs.Lists.{lowest-is, lowest-none, lowest-cases, lowest-same}
 
 -- rules joined
 pub every-join : {P : Rule → Type 0} (rs ss : List Rule) → Every P rs → Every P ss → Every P (rs ++ ss)
@@ -65,6 +66,24 @@ ruling-fail (whole n t w b) rs a v f = rw (f .1, f .0)
 ruling-fail (each n t k ok) rs a v f =
     let e : lowest ok k ≡ v = lowest-is ok k v (f .0) (f .1) (f .2) in
     rw (ne-eqb (lowest ok k) k (omega (arith, f .0)), e)
+
+-- a rule by itself: refused at its lowest node, or passed
+pub one-refused : (n t k : ℕ) (ok : ℕ → Bool) (v : ℕ) → v < k → ok v ≡ false → ((i : ℕ) → i < v → T (ok i)) → verdict (each n t k ok ∷ []) ≡ refused n t v
+unfolding numberOf treeOf
+one-refused n t k ok v l e f = ruling-fail (each n t k ok) [] fine v (l, e, f)
+
+pub one-passed : (n t k : ℕ) (ok : ℕ → Bool) → ((i : ℕ) → i < k → T (ok i)) → verdict (each n t k ok ∷ []) ≡ accepted fine
+unfolding ruling
+one-passed n t k ok f = ruling-pass (each n t k ok) [] fine f
+
+-- what is accepted is not refused
+pub refused-not : {A B : Type 0} {a : A} {n t v : ℕ} → accepted a ≡ refused n t v → B
+refused-not e = clash (cc)
+
+-- two tests that agree at every node make one rule
+pub one-same : (n t k : ℕ) (ok ok′ : ℕ → Bool) → ((i : ℕ) → i < k → ok i ≡ ok′ i) → verdict (each n t k ok ∷ []) ≡ verdict (each n t k ok′ ∷ [])
+unfolding ruling
+one-same n t k ok ok′ f = rw (lowest-same ok ok′ k f)
 
 -- rules that all pass can be left out
 pub ruling-all : {A : Type 0} (rs ss : List Rule) (a : A) → Every Passes rs → ruling (rs ++ ss) a ≡ ruling ss a

@@ -6,4 +6,6 @@ pub mod Sound
 pub mod Rules
 pub mod Lent
 pub mod Spots
+pub mod Answers
+pub mod Promises
 pub mod One

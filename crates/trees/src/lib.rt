@@ -1,4 +1,5 @@
-// The two countings, and the refusal.
+// The two countings, the refusal, and what a judge answers.
+ghost use Rattle.trees.specs.Promises.{RefuseMeets};
 
 // A node of the species tree, by its number.
 pub struct SpeciesNode(pub usize);
@@ -18,4 +19,21 @@ pub struct Refusal {
     pub number: u16,
     pub tree: u16,
     pub place: usize,
+}
+
+// What a judge answers.
+pub enum Judged {
+    Sound,
+    Refused(Refusal),
+}
+
+// The refusal with that number, tree and place.
+pub fn refuse(number: u16, tree: u16, place: usize) -> Refusal
+    ensures { λ r. ⌜ RefuseMeets number tree place r ⌝ }
+{
+    Refusal {
+        number,
+        tree,
+        place,
+    }
 }

@@ -1,4 +1,4 @@
--- Tables made up of pieces: what is left of a table and its front, a table filled and compared from the front, words that are all zero.
+-- Tables made up of pieces: what is left of a table and its front, a table filled from the front, words that are all zero.
 -- Assumes nothing.
 use Prim.Native.Nat.{ℕ, zero, suc, _+_, _-_, _*_, _<_, _≤_}
 use native.Mathlib.Omega.{arith}
@@ -11,13 +11,13 @@ use lib.Seq.{length-take-le, length-front, take-all, take-at, drop-at, take-take
 use lib.Dec.{eqb, eqb→eq}
 use borrow.Author.Tests.{eq-eqb}
 use borrow.Rule.Slice.PartMut.{putMid}
-use Rattle.trees.specs.Lists.{all, lowest}
+use Rattle.trees.specs.Lists.{all}
 use Rattle.trees.proofs.Bools.{and-left, and-right, true-T, T-same}
-use Rattle.trees.proofs.Lists.{lowest-none}
 use Rattle.blocks.specs.Halves.{joined, wordsOf, longsOf}
 use Rattle.blocks.specs.Blocks.{run, word, content}
 use Rattle.blocks.specs.Image.{blank}
-use Rattle.words.specs.Words.{offset, after, alike, agree, Front, Starts, Within}
+use Rattle.words.specs.Words.{offset, after, Within}
+use Rattle.words.specs.Passing.{Front}
 use Rattle.words.proofs.Tables.{Filling, length-longs, long-in, long-read}
 
 -- ---- what is left of a table, and its front
@@ -64,10 +64,10 @@ module _ (i n k : ℕ) (l : List ℕ) where
 abbrev pub left : ℕ → List ℕ → List ℕ
 left k l = take (length l - k) (drop k l)
 
-left-is : (k : ℕ) (l : List ℕ) → left k l ≡ drop k l
+pub left-is : (k : ℕ) (l : List ℕ) → left k l ≡ drop k l
 left-is k l = take-all (length l - k) (drop k l) (rw (length-drop k l) (omega arith))
 
-length-left : (k : ℕ) (l : List ℕ) → length (left k l) ≡ length l - k
+pub length-left : (k : ℕ) (l : List ℕ) → length (left k l) ≡ length l - k
 length-left k l = ap length (left-is k l) ∙ length-drop k l
 
 module _ (s : List ℕ) (i n k : ℕ) (l : List ℕ) (e : length l ≡ n) (h : k < n) where
@@ -83,26 +83,13 @@ module _ (new old : List ℕ) where
   pub front-is : (last : List ℕ) (r : ℕ) → 0 < r → r ≤ length old → last ≡ take r new → Front new old (last ++ drop r old) r
   front-is last r h l e = record { some = h; low = l; is = rw e }
 
-  starts-some : (k r : ℕ) → Starts new old k → Starts (drop k new) (left k old) r → Starts new old (k + r)
-  starts-some k r p q =
-      let e : take r (drop k old) ≡ take r (drop k new) = rw (left-is k old) at (q .is) in
-      record { low = omega (arith, p .low, q .low, length-left k old); is = rw (take-add k r old, take-add k r new, p .is, e) }
-
-  pub starts-all : (k : ℕ) → Starts new old k → length old ≤ k → length new ≡ length old → old ≡ new
-  starts-all k p h e = sym (take-all k old h) ∙ p .is ∙ take-all k new (omega arith)
-
 -- one entry alone
 front-one : (new old : List ℕ) (v : ℕ) → 0 < length old → 0 < length new → v ≡ getD new 0 0 → Front new old (set old 0 v) 1
 front-one [] old v h l e = absurd (omega arith)
 front-one (y ∷ new) [] v h l e = absurd (omega arith)
 front-one (y ∷ new) (x ∷ old) v h l e = record { some = omega arith; low = omega arith; is = rw e }
 
-starts-one : (new old : List ℕ) → 0 < length old → 0 < length new → getD old 0 0 ≡ getD new 0 0 → Starts new old 1
-starts-one [] old h l e = absurd (omega arith)
-starts-one (y ∷ new) [] h l e = absurd (omega arith)
-starts-one (y ∷ new) (x ∷ old) h l e = record { low = omega arith; is = rw e }
-
--- ---- a table filled and compared piece by piece
+-- ---- a table filled piece by piece
 
 filling-some : (old new out last : List ℕ) (k r : ℕ) → Filling old new out k → Front (drop k new) (left k out) last r → Filling old new (putMid k (length out - k) out last) (k + r)
 filling-some old new out last k r f p =
@@ -132,13 +119,6 @@ module _ (s : List ℕ) (i : ℕ) (old out last : List ℕ) (k r : ℕ) where
   pub filling-longs : Filling old (longsOf (run i (2 * length old) (content s))) out k → Front (longsOf (run (i + 2 * k) (2 * length (left k out)) (content s))) (left k out) last r → Filling old (longsOf (run i (2 * length old) (content s))) (putMid k (length out - k) out last) (k + r)
   filling-longs f p = filling-some old (longsOf (run i (2 * length old) (content s))) out last k r f (rw (rest (f .same), longs-left i (length old) k (content s)) at p)
 
-module _ (s : List ℕ) (i : ℕ) (old : List ℕ) (k r : ℕ) where
-  pub starts-words : Starts (run i (length old) (content s)) old k → Starts (run (i + k) (length (left k old)) (content s)) (left k old) r → Starts (run i (length old) (content s)) old (k + r)
-  starts-words p q = starts-some (run i (length old) (content s)) old k r p (rw (length-left k old, words-left i (length old) k (content s)) at q)
-
-  pub starts-longs : Starts (longsOf (run i (2 * length old) (content s))) old k → Starts (longsOf (run (i + 2 * k) (2 * length (left k old)) (content s))) (left k old) r → Starts (longsOf (run i (2 * length old) (content s))) old (k + r)
-  starts-longs p q = starts-some (longsOf (run i (2 * length old) (content s))) old k r p (rw (length-left k old, longs-left i (length old) k (content s)) at q)
-
 -- ---- a number that begins with the last word of a block
 
 module _ (s : List ℕ) (i n at : ℕ) (w : Within s i (2 * n)) (h : 0 < n) (e : at ≡ offset i) where
@@ -149,22 +129,11 @@ module _ (s : List ℕ) (i n at : ℕ) (w : Within s i (2 * n)) (h : 0 < n) (e :
   one-in = long-in s i 0 at (omega (arith, w .room)) here
 
   module _ (old : List ℕ) (l : length old ≡ n) (v : ℕ) (f : v ≡ word s at + 65536 * word s (after at)) where
-    read : v ≡ getD (longsOf (run i (2 * n) (content s))) 0 0
-    read = long-read s i n 0 at v w h here f
+    pub one-read : v ≡ getD (longsOf (run i (2 * n) (content s))) 0 0
+    one-read = long-read s i n 0 at v w h here f
 
     pub one-front : Front (longsOf (run i (2 * n) (content s))) old (set old 0 v) 1
-    one-front = front-one _ old v (omega arith) (omega (arith, length-longs s i n w)) read
-
-    pub one-starts : v ≡ getD old 0 0 → Starts (longsOf (run i (2 * n) (content s))) old 1
-    one-starts e = starts-one _ old (omega arith) (omega (arith, length-longs s i n w)) (sym e ∙ read)
-
--- ---- two tables that are the same
-
-pub agree-all : (s : List ℕ) (i : ℕ) (c d : List ℕ) → length d ≡ length c → c ≡ run i (length c) (content s) → d ≡ longsOf (run (i + length c) (2 * length d) (content s)) → length c ≡ lowest (agree (content s) i c d) (length c)
-unfolding alike
-agree-all s i c d n e f =
-    let g : d ≡ longsOf (run (i + length c) (2 * length c) (content s)) = rw n at f in
-    sym (lowest-none (agree (content s) i c d) (length c) (λ v h. rw (← e, ← g, eq-eqb (getD c v 0) (getD c v 0) refl, eq-eqb (getD d v 0) (getD d v 0) refl) tt))
+    one-front = front-one _ old v (omega arith) (omega (arith, length-longs s i n w)) one-read
 
 -- ---- words that are all zero
 

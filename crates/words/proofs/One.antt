@@ -1,47 +1,50 @@
 -- One answer only: any two results that meet a contract of this crate are equal. Assumes nothing.
-use Prim.Native.Nat.{ℕ, _*_, _-_}
-use mathlib.Core.Path.{_≡_}
-use mathlib.Core.Bool.{Bool}
+use Prim.Native.Nat.{ℕ}
+use native.Mathlib.Omega.{arith}
+use mathlib.Core.Path.{sym, _∙_}
+use mathlib.Core.Logic.{⊎-elim}
 use mathlib.Core.List.{List}
-use lib.ListN.{length, getD, drop, replicate}
 use Rattle.trees.specs.One.{Single}
-use Rattle.trees.specs.Lists.{lowest}
 use Rattle.trees.proofs.One.{single-value}
-use Rattle.blocks.specs.Halves.{wordsOf, longsOf, lowHigh}
-use Rattle.blocks.specs.Blocks.{run, count, content}
-use Rattle.blocks.specs.Image.{blank}
-use Rattle.words.specs.Words.{agree, puts}
+use Rattle.words.specs.Promises.{OffsetOfMeets, NextMeets, TogetherMeets, BytesOfMeets, LongAtMeets, LongFromMeets, CopyWordsMeets, CopyLongsMeets, NthWordMeets, ReadWordsMeets, ReadLongsMeets, BlankFromMeets}
 
--- ---- reading: what is answered, or what the lent table holds
+-- ---- where a word stands
 
-pub nth-word-one : (image : List ℕ) (i : ℕ) → Single (λ (r : ℕ). r ≡ getD (content image) i 0)
-nth-word-one image i = single-value (getD (content image) i 0)
+pub offset-of-one : (i : ℕ) → Single (OffsetOfMeets i)
+offset-of-one i = single-value _
 
-pub read-words-one : (image : List ℕ) (i n : ℕ) → Single (λ (left : List ℕ). left ≡ run i n (content image))
-read-words-one image i n = single-value (run i n (content image))
+pub next-one : (at : ℕ) → Single (NextMeets at)
+next-one at = single-value _
 
-pub read-longs-one : (image : List ℕ) (i n : ℕ) → Single (λ (left : List ℕ). left ≡ longsOf (run i (2 * n) (content image)))
-read-longs-one image i n = single-value (longsOf (run i (2 * n) (content image)))
+-- as many as are left, or as many as reach the end of the block, whichever are fewer
+pub together-one : (i n : ℕ) → Single (TogetherMeets i n)
+together-one i n a b p q = ⊎-elim (λ e. ⊎-elim (λ f. omega arith) (λ f. omega arith) (q .most)) (λ e. ⊎-elim (λ f. omega arith) (λ f. omega arith) (q .most)) (p .most)
 
-pub first-difference-one : (image : List ℕ) (i : ℕ) (parents taxa : List ℕ) → Single (λ (r : ℕ). r ≡ lowest (agree (content image) i parents taxa) (length parents))
-first-difference-one image i parents taxa = single-value (lowest (agree (content image) i parents taxa) (length parents))
+pub bytes-of-one : (image : List ℕ) (i m : ℕ) → Single (BytesOfMeets image i m)
+bytes-of-one image i m a b p q = p .2 ∙ sym (q .2)
 
-pub blank-from-one : (image : List ℕ) (i : ℕ) → Single (λ (r : Bool). r ≡ blank (drop i (content image)))
-blank-from-one image i = single-value (blank (drop i (content image)))
+pub long-at-one : (s : List ℕ) (at : ℕ) → Single (LongAtMeets s at)
+long-at-one s at = single-value _
 
-pub copy-words-one : (bytes : List ℕ) → Single (λ (left : List ℕ). left ≡ wordsOf bytes)
-copy-words-one bytes = single-value (wordsOf bytes)
+pub long-from-one : (s : List ℕ) (at : ℕ) → Single (LongFromMeets s at)
+long-from-one s at = single-value _
 
-pub copy-longs-one : (bytes : List ℕ) → Single (λ (left : List ℕ). left ≡ longsOf (wordsOf bytes))
-copy-longs-one bytes = single-value (longsOf (wordsOf bytes))
+-- ---- what is answered, or what the lent table holds
 
--- ---- writing: what the lent image holds
+pub copy-words-one : (bytes out : List ℕ) → Single (CopyWordsMeets bytes out)
+copy-words-one bytes out = single-value _
 
-pub put-words-one : (image : List ℕ) (i : ℕ) (table : List ℕ) → Single (λ (left : List ℕ). left ≡ puts image i table)
-put-words-one image i table = single-value (puts image i table)
+pub copy-longs-one : (bytes out : List ℕ) → Single (CopyLongsMeets bytes out)
+copy-longs-one bytes out = single-value _
 
-pub put-longs-one : (image : List ℕ) (i : ℕ) (table : List ℕ) → Single (λ (left : List ℕ). left ≡ puts image i (lowHigh table))
-put-longs-one image i table = single-value (puts image i (lowHigh table))
+pub nth-word-one : (image : List ℕ) (i : ℕ) → Single (NthWordMeets image i)
+nth-word-one image i = single-value _
 
-pub put-zeros-one : (image : List ℕ) (i : ℕ) → Single (λ (left : List ℕ). left ≡ puts image i (replicate (253 * count image - i) 0))
-put-zeros-one image i = single-value (puts image i (replicate (253 * count image - i) 0))
+pub read-words-one : (image : List ℕ) (i : ℕ) (out : List ℕ) → Single (ReadWordsMeets image i out)
+read-words-one image i out = single-value _
+
+pub read-longs-one : (image : List ℕ) (i : ℕ) (out : List ℕ) → Single (ReadLongsMeets image i out)
+read-longs-one image i out = single-value _
+
+pub blank-from-one : (image : List ℕ) (i : ℕ) → Single (BlankFromMeets image i)
+blank-from-one image i = single-value _

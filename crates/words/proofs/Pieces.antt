@@ -6,31 +6,27 @@ use native.Mathlib.Numerals.{add-one}
 use mathlib.Core.Path.{_≡_, refl, sym, ap, ap₂, _∙_}
 use mathlib.Core.Bool.{Bool, true, false, _&&_}
 use mathlib.Core.List.{List}
-use lib.ListN.{length, getD, take, drop, length-drop, drop-of-length-le}
-use lib.Seq.{length-take-le, take-all, take-suc, drop-cons, getD-take, getD-drop, ext-getD}
-use lib.Dec.{eqb, eqb→eq}
+use lib.ListN.{length, getD, take, drop, drop-of-length-le}
+use lib.Seq.{drop-cons, getD-take, getD-drop, ext-getD}
+use lib.Dec.{eqb}
 use borrow.Author.Tests.{eq-eqb, ne-eqb}
 use Rattle.trees.specs.Lists.{all}
-use Rattle.trees.proofs.Bools.{true-T}
 use Rattle.blocks.specs.Halves.{wordsOf, longsOf}
 use Rattle.blocks.specs.Blocks.{run, word, count, content}
 use Rattle.blocks.specs.Image.{blank}
 use Rattle.words.specs.Words.{offset, Within}
-use Rattle.blocks.proofs.Halves.{length-joined, getD-joined}
+use Rattle.blocks.proofs.Halves.{length-joined, getD-joined, length-run}
 use Rattle.words.proofs.Words.{offset-in}
-use Rattle.words.proofs.Tables.{length-run, word-read}
+use Rattle.words.proofs.Tables.{length-words-in, word-read}
 
 -- ---- the entries of a piece
 
 pub word-piece : (b : List ℕ) (n k v : ℕ) → length b ≡ 2 * n → v ≡ word b (2 * k) → v ≡ getD (wordsOf b) k 0
 word-piece b n k v e f = f ∙ sym (getD-joined 256 n b k e)
 
-pub length-words : (b : List ℕ) (n : ℕ) → length b ≡ 2 * n → length (wordsOf b) ≡ n
-length-words b n e = length-joined 256 n b e
-
 module _ (b : List ℕ) (n : ℕ) (e : length b ≡ 4 * n) where
   words : length (wordsOf b) ≡ 2 * n
-  words = length-words b (2 * n) (omega arith)
+  words = length-joined 256 (2 * n) b (omega arith)
 
   pub length-longs-of : length (longsOf (wordsOf b)) ≡ n
   length-longs-of = length-joined 65536 n (wordsOf b) words
@@ -42,30 +38,6 @@ module _ (b : List ℕ) (n : ℕ) (e : length b ≡ 4 * n) where
       f ∙ ap₂ (λ (x y : ℕ). x + 65536 * y) low high ∙ sym (getD-joined 65536 n (wordsOf b) k words)
 
 -- ---- what was found wrong is noted
-
--- the first k entries compared: nothing wrong was noted only if they are the same
-pub record Compared (old new : List ℕ) (wrong k : ℕ) : Type 0 where
-  pub low : k ≤ length old
-  pub long : length new ≡ length old
-  pub same : wrong ≡ 0 → take k old ≡ take k new
-
-pub compared-none : (old new : List ℕ) → length new ≡ length old → Compared old new 0 0
-compared-none old new e = record { low = omega arith; long = e; same = λ z. refl }
-
-module _ (old new : List ℕ) (w k r : ℕ) (c : Compared old new w k) where
-  pub compared-same : (v : ℕ) → k < length old → v ≡ getD new k 0 → v ≡ getD old k 0 → r ≡ w → Compared old new r (k + 1)
-  compared-same v h e f g =
-      record {
-        low = omega arith;
-        long = c .long;
-        same = λ z. rw (add-one, take-suc old k 0 h, take-suc new k 0 (omega (arith, c .long)), c .same (sym g ∙ z), ← e, ← f);
-      }
-
-  pub compared-wrong : k < length old → r ≡ 1 → Compared old new r (k + 1)
-  compared-wrong h e = record { low = omega arith; long = c .long; same = λ z. absurd (omega arith) }
-
-pub compared-end : (old new : List ℕ) (w k : ℕ) → Compared old new w k → length old ≤ k → eqb w 0 ≡ true → old ≡ new
-compared-end old new w k c h e = sym (take-all k old h) ∙ c .same (eqb→eq w 0 (true-T e)) ∙ take-all k new (omega (arith, c .long))
 
 -- the first k bytes tested: what was noted and the bytes that are left decide
 abbrev pub Tested : List ℕ → ℕ → ℕ → Type 0
@@ -109,7 +81,7 @@ module _ (s : List ℕ) (i m : ℕ) (h : Within s i m) (p : 0 < m) (g : i % 253 
       omega (arith, offset-in (count s) (i + (m - 1)) d, offset-line i m (m - 1) g (omega arith))
 
   piece-length : length (run (offset i) (2 * m) s) ≡ 2 * m
-  piece-length = length-take-le (2 * m) (drop (offset i) s) (rw length-drop (omega (arith, piece-in)))
+  piece-length = length-run (offset i) (2 * m) s piece-in
 
   piece-word : (v : ℕ) → v < m → getD (wordsOf (run (offset i) (2 * m) s)) v 0 ≡ getD (run i m (content s)) v 0
   piece-word v l =
@@ -127,11 +99,11 @@ module _ (s : List ℕ) (i m : ℕ) (h : Within s i m) (p : 0 < m) (g : i % 253 
   -- the words of those bytes are the words of the image
   piece-words : wordsOf (run (offset i) (2 * m) s) ≡ run i m (content s)
   piece-words =
-      let l : length (wordsOf (run (offset i) (2 * m) s)) ≡ m = length-words _ m piece-length in
-      ext-getD 0 (wordsOf (run (offset i) (2 * m) s)) (run i m (content s)) (l ∙ sym (length-run s i m h)) (λ v b. piece-word v (rw l at b))
+      let l : length (wordsOf (run (offset i) (2 * m) s)) ≡ m = length-joined 256 m _ piece-length in
+      ext-getD 0 (wordsOf (run (offset i) (2 * m) s)) (run i m (content s)) (l ∙ sym (length-words-in s i m h)) (λ v b. piece-word v (rw l at b))
 
   -- the bytes as code takes them
-  pub piece-taken : (a : ℕ) → a ≡ offset i → (length (take (a + 2 * m - a) (drop a s)) ≡ 2 * m) × (wordsOf (take (a + 2 * m - a) (drop a s)) ≡ run i m (content s))
+  pub piece-taken : (a : ℕ) → a ≡ offset i → (length (take (a + 2 * m - a) (drop a s)) ≡ 2 * m) × (wordsOf (take (a + 2 * m - a) (drop a s)) ≡ run i m (content s)) × (take (a + 2 * m - a) (drop a s) ≡ run (offset i) (2 * m) s)
   piece-taken a e =
       let z : a + 2 * m - a ≡ 2 * m = omega arith in
-      rw (z, e) (piece-length, piece-words)
+      rw (z, e) (piece-length, piece-words, refl)

@@ -1,7 +1,5 @@
-// The words of an image, by their number among the words of all blocks: where each stands, tables read and tables put. Nothing here
-// knows what the words mean, and numbers and checks of blocks are passed over.
-mod at;
+// The words of an image, by their number among the words of all blocks: where each stands, and tables read. Nothing here knows what the
+// words mean, and numbers and checks of blocks are passed over.
+pub mod at;
 pub mod piece;
 pub mod read;
-mod same;
-pub mod write;

@@ -2,18 +2,17 @@
 // entries go at a time: what is found wrong is noted, and asked for at the end.
 ghost use mathlib.Core.Path.{_≡_};
 ghost use Prim.Native.Nat.{_+_, _*_, _<_};
-ghost use mathlib.Core.Bool.{true};
 ghost use lib.ListN.{length};
-ghost use Rattle.blocks.specs.Halves.{wordsOf, longsOf};
 ghost use Rattle.blocks.specs.Blocks.{word};
 ghost use Rattle.blocks.specs.Image.{blank};
+ghost use Rattle.words.specs.Promises.{CopyWordsMeets, LongFromMeets, CopyLongsMeets};
 use crate::at;
 use blocks::word;
 
 // A table of 2 bytes an entry into all of `out`.
 pub fn copy_words(bytes: &[u8], out: &mut [u16])
     requires { ⌜ length (now bytes) ≡ 2 * length (now out) ⌝ }
-    ensures { λ r. ⌜ now (out .exit) ≡ wordsOf (now (bytes .entry)) ⌝ }
+    ensures { λ r. ⌜ CopyWordsMeets (now (bytes .entry)) (now (out .entry)) (now (out .exit)) ⌝ }
 {
     let mut k: usize = 0;
     while k < out.len() {
@@ -23,9 +22,9 @@ pub fn copy_words(bytes: &[u8], out: &mut [u16])
 }
 
 // The number of 32 bits whose bytes stand from byte `at` on.
-fn long_from(s: &[u8], at: usize) -> u32
+pub fn long_from(s: &[u8], at: usize) -> u32
     requires { ⌜ at + 3 < length (now s) ⌝ }
-    ensures { λ r. ⌜ r ≡ word (now (s .entry)) at + 65536 * word (now (s .entry)) (at + 2) ⌝ }
+    ensures { λ r. ⌜ LongFromMeets (now (s .entry)) at r ⌝ }
 {
     at::low_high(word::word_at(s, at), word::word_at(s, at + 2))
 }
@@ -33,49 +32,13 @@ fn long_from(s: &[u8], at: usize) -> u32
 // A table of 4 bytes an entry into all of `out`.
 pub fn copy_longs(bytes: &[u8], out: &mut [u32])
     requires { ⌜ length (now bytes) ≡ 4 * length (now out) ⌝ }
-    ensures { λ r. ⌜ now (out .exit) ≡ longsOf (wordsOf (now (bytes .entry))) ⌝ }
+    ensures { λ r. ⌜ CopyLongsMeets (now (bytes .entry)) (now (out .entry)) (now (out .exit)) ⌝ }
 {
     let mut k: usize = 0;
     while k < out.len() {
         out[k] = long_from(bytes, 4 * k);
         k += 1;
     }
-}
-
-// Is the table of 2 bytes an entry this one?
-pub(crate) fn equal_words(bytes: &[u8], words: &[u16]) -> bool
-    requires { ⌜ length (now bytes) ≡ 2 * length (now words) ⌝ }
-    ensures { λ r. ⌜ (r ≡ true → now (words .entry) ≡ wordsOf (now (bytes .entry))) ⌝ }
-{
-    let mut wrong: u16 = 0;
-    let mut k: usize = 0;
-    while k < words.len() {
-        wrong = if word::word_at(bytes, 2 * k) == words[k] {
-            wrong
-        } else {
-            1
-        };
-        k += 1;
-    }
-    wrong == 0
-}
-
-// Is the table of 4 bytes an entry this one?
-pub(crate) fn equal_longs(bytes: &[u8], longs: &[u32]) -> bool
-    requires { ⌜ length (now bytes) ≡ 4 * length (now longs) ⌝ }
-    ensures { λ r. ⌜ (r ≡ true → now (longs .entry) ≡ longsOf (wordsOf (now (bytes .entry)))) ⌝ }
-{
-    let mut wrong: u32 = 0;
-    let mut k: usize = 0;
-    while k < longs.len() {
-        wrong = if long_from(bytes, 4 * k) == longs[k] {
-            wrong
-        } else {
-            1
-        };
-        k += 1;
-    }
-    wrong == 0
 }
 
 // Are the bytes all zero?

@@ -2,7 +2,7 @@
 use mathlib.Core.Path.{sym, ap, _∙_}
 use Rattle.trees.specs.Rulings.{Ruling}
 use Rattle.families.specs.Loading.{Contents}
-use Rattle.images.specs.Answers.{loadedOf}
+use Rattle.loading.specs.Answers.{loadedOf}
 use Rattle.collector.specs.Host.{lossesIn}
 use borrow.Author.Needs.{needs}
 use Rattle.collector.proofs.panheron_losses.Statement.{statement}

@@ -1,11 +1,11 @@
 -- `collector::panheron_place`. Assumes nothing.
-use Prim.Native.Nat.{ℕ, _%_}
+use native.Mathlib.Omega.{arith}
 use mathlib.Core.Path.{sym, ap, _∙_}
 use Rattle.trees.specs.Rulings.{Ruling}
-use Rattle.judges.specs.Answers.{judgedOf}
+use Rattle.trees.specs.Answers.{judgedOf}
 use Rattle.families.specs.Loading.{Contents}
-use Rattle.collector.specs.Host.{hostRuling}
-use Rattle.collector.proofs.Asking.{place-plain}
+use Rattle.collector.specs.Host.{hostRuling, placeIn}
+use Rattle.collector.proofs.Asking.{place-plain, place-small}
 use borrow.Author.Needs.{needs}
 use Rattle.collector.proofs.panheron_place.Statement.{statement}
 use Rattle.collector.proofs.panheron_place.Tie as tie
@@ -24,13 +24,13 @@ enum-known-answer : tie.Need-enum-known-answer
 enum-known-answer c = search needs
 
 cast-result : tie.Need-cast-result
-cast-result c = search needs
+cast-result c = let s = c .before .before .before .before .before .before .before .before in omega (arith, place-small (s .args .image .now) (s .args .parents .now) (s .args .taxa .now) _ _ _ (sym (ap judgedOf (c .before .before .answer .given .1)) ∙ c .before .before .before .before .refusal .ensures))
 
 returns : tie.Need-returns
-returns c = ap (λ (x : ℕ). x % 4294967296) (place-plain (asked (c .before .before .before .before .before .before)) _ (sym (ap judgedOf (c .enum-told .given .1)) ∙ c .before .before .refusal .ensures))
+returns c = ap placeIn (sym (ap judgedOf (c .enum-told .given .1)) ∙ c .before .before .refusal .ensures) ∙ place-plain (asked (c .before .before .before .before .before .before))
 
 returns-2 : tie.Need-returns-2
-returns-2 c = ap (λ (x : ℕ). x % 4294967296) (place-plain (asked (c .before .before .before .before .before .before .before .before)) _ (sym (ap judgedOf (c .before .before .answer .given .1)) ∙ c .before .before .before .before .refusal .ensures))
+returns-2 c = ap placeIn (sym (ap judgedOf (c .before .before .answer .given .1)) ∙ c .before .before .before .before .refusal .ensures) ∙ place-plain (asked (c .before .before .before .before .before .before .before .before))
 
 pub panheron-place-spec : {M : Type 1} → statement M
 panheron-place-spec =

@@ -1,9 +1,9 @@
 -- `collector::panheron_tree`. Assumes nothing.
 use mathlib.Core.Path.{sym, ap, _∙_}
 use Rattle.trees.specs.Rulings.{Ruling}
-use Rattle.judges.specs.Answers.{judgedOf}
+use Rattle.trees.specs.Answers.{judgedOf}
 use Rattle.families.specs.Loading.{Contents}
-use Rattle.collector.specs.Host.{hostRuling}
+use Rattle.collector.specs.Host.{hostRuling, treeIn}
 use Rattle.collector.proofs.Asking.{tree-plain}
 use borrow.Author.Needs.{needs}
 use Rattle.collector.proofs.panheron_tree.Statement.{statement}
@@ -26,10 +26,10 @@ cast-result : tie.Need-cast-result
 cast-result c = search needs
 
 returns : tie.Need-returns
-returns c = tree-plain (asked (c .before .before .before .before .before .before)) _ (sym (ap judgedOf (c .enum-told .given .1)) ∙ c .before .before .refusal .ensures)
+returns c = ap treeIn (sym (ap judgedOf (c .enum-told .given .1)) ∙ c .before .before .refusal .ensures) ∙ tree-plain (asked (c .before .before .before .before .before .before))
 
 returns-2 : tie.Need-returns-2
-returns-2 c = tree-plain (asked (c .before .before .before .before .before .before .before .before)) _ (sym (ap judgedOf (c .before .before .answer .given .1)) ∙ c .before .before .before .before .refusal .ensures)
+returns-2 c = ap treeIn (sym (ap judgedOf (c .before .before .answer .given .1)) ∙ c .before .before .before .before .refusal .ensures) ∙ tree-plain (asked (c .before .before .before .before .before .before .before .before))
 
 pub panheron-tree-spec : {M : Type 1} → statement M
 panheron-tree-spec =

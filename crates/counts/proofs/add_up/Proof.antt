@@ -4,7 +4,7 @@ use native.Mathlib.Omega.{arith}
 use mathlib.Core.Path.{_≡_, refl, sym, ap, ap₂, _∙_}
 use lib.ListN.{length}
 use Rattle.trees.specs.Lists.{range, total}
-use Rattle.counts.specs.Tallies.{kindsTo, stepsTo, tallied}
+use Rattle.counts.specs.Sums.{kindsTo, stepsTo}
 use Rattle.counts.proofs.Tallying.{kinds-more, steps-more, step-of, steps-fit}
 use borrow.Author.Needs.{needs}
 use Rattle.counts.proofs.add_up.Statement.{statement}
@@ -60,15 +60,17 @@ loop-less c = search needs
 loop-again : tie.Need-loop-again Inv-loop μ-loop
 loop-again c = let k = c .before .before .before .before .before in let i = k .loop .inv in let ls = start k .args .labels .now in (search needs, search needs, ap₂ _+_ (i .2) (c .before .before .same .ensures .0) ∙ sym (kinds-more ls 2 (k .loop .c)), ap₂ _+_ (i .3) (c .before .same2 .ensures .0) ∙ sym (kinds-more ls 1 (k .loop .c)), ap₂ _+_ (i .4) (c .steps-of .ensures) ∙ sym (steps-more _ _ _ _), omega (arith, c .before .before .same .ensures .1), omega (arith, c .before .same2 .ensures .1))
 
-mul-losses : tie.Need-mul-losses Inv-loop μ-loop
-mul-losses c = omega (arith, start (c .before) .pre .few)
-
-sub-losses : tie.Need-sub-losses Inv-loop μ-loop
-sub-losses c = omega (arith, start (c .before) .pre .enough, c .before .loop .inv .3, c .before .loop .inv .4, ap (λ n. kindsTo (start (c .before) .args .labels .now) 1 n) (whole c), ap (λ n. stepsTo (start (c .before) .args .depths .now) (start (c .before) .args .gene-parents .now) (start (c .before) .args .places .now) n) (whole c))
-
 returns : tie.Need-returns Inv-loop μ-loop
-unfolding tallied
-returns c = let i = c .before .loop .inv in rw (i .2, i .3, i .4, whole c)
+returns c =
+    let i = c .before .loop .inv in
+    let few : length (start (c .before) .args .gene-parents .now) ≤ 2047 = start (c .before) .pre .few in
+    record {
+      duplications = rw (← whole c) (i .2);
+      speciations = rw (← whole c) (i .3);
+      climbs = rw (← whole c) (i .4);
+      duplications-few = search needs;
+      speciations-few = search needs;
+    }
 
 pub add-up-spec : {M : Type 1} → statement M
 add-up-spec =
@@ -88,6 +90,4 @@ add-up-spec =
     add-c
     loop-less
     loop-again
-    mul-losses
-    sub-losses
     returns)

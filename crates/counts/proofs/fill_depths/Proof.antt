@@ -3,7 +3,8 @@ use Prim.Native.Nat.{_-_, _≤_, _<_}
 use native.Mathlib.Omega.{arith}
 use mathlib.Core.Path.{_≡_, sym, _∙_}
 use lib.ListN.{length, getD}
-use Rattle.counts.proofs.Depths.{Deepening, deepening-start, deepening-turn, deep-small, deepening-end, parent-in}
+use Rattle.counts.proofs.Depths.{Deepening, deepening-start, deepening-turn, deep-small, deepening-end}
+use Rattle.trees.proofs.Lines.{parent-in}
 use borrow.Author.Needs.{needs}
 use Rattle.counts.proofs.fill_depths.Statement.{statement}
 use Rattle.counts.proofs.fill_depths.Tie as tie
@@ -16,7 +17,7 @@ abbrev μ-loop : tie.MeasureT-loop
 
 -- the parent read in this turn is a node, and its depth is small
 inside : (c : tie.In-loop Inv-loop μ-loop) → getD (c .before .before .args .parents .now) (c .before .loop .i) 0 < c .before .loop .i
-inside c = parent-in (c .before .before .pre .0 .1) _ (search needs) (search needs)
+inside c = parent-in _ _ (search needs) (c .before .before .pre .0 .1 .order _ (search needs) (search needs))
 
 small : (c : tie.In-loop Inv-loop μ-loop) → getD (c .before .loop .depths) (getD (c .before .before .args .parents .now) (c .before .loop .i) 0) 0 ≤ 1023
 small c = deep-small (c .before .before .pre .0 .1) _ _ (search needs) (search needs) (c .before .loop .inv .3)

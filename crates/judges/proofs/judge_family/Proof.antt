@@ -4,9 +4,9 @@ use Rattle.trees.specs.Rulings.{verdict, accepted, fine}
 use Rattle.trees.specs.Rules.{shapeRules}
 use Rattle.trees.specs.Tables.{Pair, pair}
 use Rattle.trees.proofs.Bools.{true-T}
-use Rattle.judges.specs.Answers.{judgedOf}
+use Rattle.trees.specs.Answers.{judgedOf}
 use Rattle.judges.proofs.Leaves.{species-alone}
-use Rattle.judges.proofs.Shapes.{family-shape, family-known, family-6, family-right}
+use Rattle.judges.proofs.Shapes.{family-shape, family-known, family-taxa}
 use borrow.Author.Needs.{needs}
 use Rattle.judges.proofs.judge_family.Statement.{statement}
 use Rattle.judges.proofs.judge_family.Tie as tie
@@ -37,17 +37,11 @@ returns c = let s = start (c .before .before) in let e = ap judgedOf (c .enum-to
 returns-2 : tie.Need-returns-2
 returns-2 c = let k = c .before in let s = start (k .before .before) in sym (family-known (tables s) (s .pre .0 .tree) (s .pre .1) (shape-fine k) (s .pre .2 (true-T (c .if1 .taken))))
 
-first-unknown-requires : tie.Need-first-unknown-requires
-first-unknown-requires c κs = species-alone (start (c .before .before .before) .pre .0)
-
-refuse-requires : tie.Need-refuse-requires
-refuse-requires c κs = search needs
+judge-known-requires : tie.Need-judge-known-requires
+judge-known-requires c κs = species-alone (start (c .before .before .before) .pre .0)
 
 returns-3 : tie.Need-returns-3
-returns-3 c = let k = c .before .before .before .before in let s = start (k .before .before) in ap judgedOf (c .refuse .ensures) ∙ sym (family-6 (tables s) (s .pre .0 .tree) (s .pre .1) (shape-fine k) _ (c .before .before .first-unknown .ensures) (c .before .if2 .taken))
-
-returns-4 : tie.Need-returns-4
-returns-4 c = let k = c .before .before .before in let s = start (k .before .before) in sym (family-right (tables s) (s .pre .0 .tree) (s .pre .1) (shape-fine k) _ (c .before .first-unknown .ensures) (c .if2 .left))
+returns-3 c = let k = c .before .before in let s = start (k .before .before) in c .judge-known .ensures ∙ sym (family-taxa (tables s) (s .pre .0 .tree) (s .pre .1) (shape-fine k))
 
 pub judge-family-spec : {M : Type 1} → statement M
 judge-family-spec =
@@ -58,7 +52,5 @@ judge-family-spec =
     enum-told-2
     returns
     returns-2
-    first-unknown-requires
-    refuse-requires
-    returns-3
-    returns-4)
+    judge-known-requires
+    returns-3)

@@ -1,12 +1,12 @@
 -- `judges::judge_pair`. Assumes nothing.
 use mathlib.Core.Path.{_≡_, sym, ap, _∙_}
 use lib.Dec.{T}
-use Rattle.trees.specs.Rulings.{verdict, accepted, fine}
+use Rattle.trees.specs.Rulings.{verdict, accepted, refusedBy, fine}
 use Rattle.trees.specs.Rules.{sized, speciesRules}
 use borrow.Author.Tests.{not-true, not-false}
 use Rattle.trees.specs.Tables.{Pair, pair}
 use Rattle.trees.proofs.Bools.{true-T}
-use Rattle.judges.specs.Answers.{judgedOf}
+use Rattle.trees.specs.Answers.{judgedOf}
 use Rattle.judges.proofs.Shapes.{pair-species, species-here, pair-1, pair-family}
 use borrow.Author.Needs.{needs}
 use Rattle.judges.proofs.judge_pair.Statement.{statement}
@@ -46,7 +46,7 @@ refuse-requires : tie.Need-refuse-requires
 refuse-requires c κs = search needs
 
 returns-2 : tie.Need-returns-2
-returns-2 c = let k = c .before .before .before in ap judgedOf (c .refuse .ensures) ∙ sym (pair-1 (tables (start (k .before .before))) (species-fine k) (sym (c .before .before .sized-tables .ensures) ∙ not-true _ (c .before .if1 .taken)))
+returns-2 c = let k = c .before .before .before in ap refusedBy (c .refuse .ensures) ∙ sym (pair-1 (tables (start (k .before .before))) (species-fine k) (sym (c .before .before .sized-tables .ensures) ∙ not-true _ (c .before .if1 .taken)))
 
 judge-family-requires : tie.Need-judge-family-requires
 judge-family-requires c κs = let k = c .before .before in (species-here (tables (start (k .before .before))) (species-fine k), sized-here c, λ t. absurd t)

@@ -2,13 +2,13 @@
 use native.Mathlib.Omega.{arith}
 use mathlib.Core.Path.{_≡_, sym, ap, _∙_}
 use lib.Dec.{T}
-use Rattle.trees.specs.Rulings.{verdict, accepted, fine}
+use Rattle.trees.specs.Rulings.{verdict, accepted, refusedBy, fine}
 use Rattle.trees.specs.Rules.{sized, shapeRules}
 use borrow.Author.Tests.{not-true, not-false}
 use Rattle.trees.proofs.Bools.{true-T}
-use Rattle.trees.proofs.Judged.{sized-is}
-use Rattle.judges.specs.Answers.{judgedOf}
-use Rattle.judges.proofs.Shapes.{species-1, species-shape, species-5, species-right}
+use Rattle.trees.proofs.Soundness.{sized-is}
+use Rattle.trees.specs.Answers.{judgedOf}
+use Rattle.judges.proofs.Shapes.{species-1, species-shape, species-repeats}
 use borrow.Author.Needs.{needs}
 use Rattle.judges.proofs.judge_species.Statement.{statement}
 use Rattle.judges.proofs.judge_species.Tie as tie
@@ -17,14 +17,11 @@ use Rattle.judges.proofs.judge_species.Tie as tie
 abbrev start : tie.After-sized-tables → tie.Start
 start c = c .before .before .before
 
-abbrev sized-here : (c : tie.Else1) → T (sized (start (c .before) .args .parents .now) (start (c .before) .args .taxa .now))
+abbrev sized-here : (c : tie.Else1) → T (sized (start (c .before) .args .species-parents .now) (start (c .before) .args .species-taxa .now))
 sized-here c = true-T (sym (c .before .sized-tables .ensures) ∙ not-false _ (c .if1 .left))
 
-abbrev told : tie.After-first-repeated → tie.After-enum-told
-told c = c .before
-
 abbrev shape-fine : (c : tie.After-enum-told)
-    → verdict (shapeRules 1 (start (c .before .before .before .before) .args .parents .now) (start (c .before .before .before .before) .args .taxa .now)) ≡ accepted fine
+    → verdict (shapeRules 1 (start (c .before .before .before .before) .args .species-parents .now) (start (c .before .before .before .before) .args .species-taxa .now)) ≡ accepted fine
 shape-fine c = sym (c .before .before .judge-shape .ensures) ∙ ap judgedOf (c .enum-told .given .1)
 
 sized-tables-requires : tie.Need-sized-tables-requires
@@ -34,7 +31,7 @@ refuse-requires : tie.Need-refuse-requires
 refuse-requires c κs = search needs
 
 returns : tie.Need-returns
-returns c = ap judgedOf (c .refuse .ensures) ∙ sym (species-1 _ _ (sym (c .before .before .sized-tables .ensures) ∙ not-true _ (c .before .if1 .taken)))
+returns c = ap refusedBy (c .refuse .ensures) ∙ sym (species-1 _ _ (sym (c .before .before .sized-tables .ensures) ∙ not-true _ (c .before .if1 .taken)))
 
 judge-shape-requires : tie.Need-judge-shape-requires
 judge-shape-requires c κs = sized-here c
@@ -48,17 +45,11 @@ enum-told-2 c = search needs
 returns-2 : tie.Need-returns-2
 returns-2 c = let e = ap judgedOf (c .enum-told2 .given .1) in e ∙ sym (species-shape _ _ (sized-here (c .before .before .before)) _ _ _ (sym (c .before .before .judge-shape .ensures) ∙ e))
 
-first-repeated-requires : tie.Need-first-repeated-requires
-first-repeated-requires c κs = let z = sized-is _ _ (sized-here (c .before .before .before)) in omega (arith, z .few, z .even)
-
-refuse-requires-2 : tie.Need-refuse-requires-2
-refuse-requires-2 c κs = search needs
+judge-repeats-requires : tie.Need-judge-repeats-requires
+judge-repeats-requires c κs = let z = sized-is _ _ (sized-here (c .before .before .before)) in omega (arith, z .few, z .even)
 
 returns-3 : tie.Need-returns-3
-returns-3 c = let k = told (c .before .before) in ap judgedOf (c .refuse2 .ensures) ∙ sym (species-5 _ _ (sized-here (k .before .before .before)) (shape-fine k) _ (c .before .before .first-repeated .ensures) (c .before .if2 .taken))
-
-returns-4 : tie.Need-returns-4
-returns-4 c = let k = told (c .before) in sym (species-right _ _ (sized-here (k .before .before .before)) (shape-fine k) _ (c .before .first-repeated .ensures) (c .if2 .left))
+returns-3 c = let k = c .before in c .judge-repeats .ensures ∙ sym (species-repeats _ _ (sized-here (k .before .before .before)) (shape-fine k))
 
 pub judge-species-spec : {M : Type 1} → statement M
 judge-species-spec =
@@ -71,7 +62,5 @@ judge-species-spec =
     enum-told
     enum-told-2
     returns-2
-    first-repeated-requires
-    refuse-requires-2
-    returns-3
-    returns-4)
+    judge-repeats-requires
+    returns-3)

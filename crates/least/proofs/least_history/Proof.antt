@@ -5,12 +5,12 @@ use Rattle.trees.specs.Tables.{Pair, pair}
 use Rattle.trees.specs.Rules.{pairRules}
 use Rattle.trees.specs.Sound.{Sound}
 use Rattle.trees.specs.declared.Refusal.{Refusal}
-use Rattle.trees.proofs.Judged.{pair-accepted}
-use Rattle.judges.specs.Answers.{judgedOf}
+use Rattle.trees.proofs.Soundness.{pair-accepted}
+use Rattle.trees.specs.Answers.{judgedOf}
 use Rattle.histories.proofs.Rooms.{short-places, short-labels}
 use Rattle.counts.specs.Tallies.{talliedOf}
-use Rattle.least.specs.Answers.{Outcome}
-use Rattle.least.proofs.Outcomes.{filled-story, filled-tally, least-refused, least-short, least-done, counts-from}
+use Rattle.histories.specs.Outcomes.{Outcome}
+use Rattle.least.proofs.Outcomes.{filled-places, filled-labels, filled-story, filled-tally, least-refused, least-short, least-done, counts-from}
 use borrow.Author.Needs.{needs}
 use Rattle.least.proofs.least_history.Statement.{statement}
 use Rattle.least.proofs.least_history.Tie as tie
@@ -49,32 +49,32 @@ returns c = let j = c .before .before .before in let s = start j in least-refuse
 enum-told : tie.Need-enum-told
 enum-told c = search needs
 
-short-table-requires : tie.Need-short-table-requires
-short-table-requires c κs = search needs
+refuse-requires : tie.Need-refuse-requires
+refuse-requires c κs = search needs
 
 returns-2 : tie.Need-returns-2
-returns-2 c = let t = c .before .before in let s = start (t .before .before) in ap (λ r. left-alone s r) (c .short-table .ensures) ∙ least-short (tables s) _ _ _ _ (fine-here t) (short-places (tables s) _ _ (c .before .if1 .taken))
+returns-2 c = let t = c .before .before in let s = start (t .before .before) in ap (λ r. left-alone s r) (c .refuse .ensures) ∙ least-short (tables s) _ _ _ _ (fine-here t) (short-places (tables s) _ _ (c .before .if1 .taken))
 
-short-table-requires-2 : tie.Need-short-table-requires-2
-short-table-requires-2 c κs = search needs
+refuse-requires-2 : tie.Need-refuse-requires-2
+refuse-requires-2 c κs = search needs
 
 returns-3 : tie.Need-returns-3
-returns-3 c = let e = c .before .before in let t = e .before in let s = start (t .before .before) in ap (λ r. left-alone s r) (c .short-table2 .ensures) ∙ least-short (tables s) _ _ _ _ (fine-here t) (short-labels (tables s) _ _ (e .if1 .left) (c .before .if2 .taken))
+returns-3 c = let e = c .before .before in let t = e .before in let s = start (t .before .before) in ap (λ r. left-alone s r) (c .refuse2 .ensures) ∙ least-short (tables s) _ _ _ _ (fine-here t) (short-labels (tables s) _ _ (e .if1 .left) (c .before .if2 .taken))
 
 fill-requires : tie.Need-fill-requires
 fill-requires c κs = let e = c .before .before in let t = e .before .before in record { sound = sound-here t; places-room = e .before .if1 .left; labels-room = e .if2 .left }
 
 count-history-requires : tie.Need-count-history-requires
-count-history-requires c κs = let f = c .before .before .before .before .before .before in filled-story (sound-here (told f)) (f .fill .ensures)
+count-history-requires c κs = let f = c .before .before .before .before .before .before in filled-story (sound-here (told f)) (f .fill .ensures) (f .before .before .before .before .if1 .left) (f .before .before .before .if2 .left)
 
 cost-requires : tie.Need-cost-requires
 cost-requires c κs = search needs
 
 same-length : tie.Need-same-length
-same-length c = (filled c) .fill .ensures .places-kept .size
+same-length c = let f = filled c in filled-places (sound-here (told f)) (f .fill .ensures) (f .before .before .before .before .if1 .left)
 
 same-length-2 : tie.Need-same-length-2
-same-length-2 c = (filled c) .fill .ensures .labels-kept .size
+same-length-2 c = let f = filled c in filled-labels (sound-here (told f)) (f .fill .ensures) (f .before .before .before .if2 .left)
 
 returns-4 : tie.Need-returns-4
 returns-4 c = let f = filled c in let t = told f in let s = start (t .before .before) in let e = f .before .before .before in least-done (tables s) _ _ (s .args .dw) (s .args .lw) (fine-here t) _ _ _ (f .fill .ensures) (e .before .if1 .left) (e .if2 .left) (counts-from (tables s) _ _ (talliedOf (c .before .count-history .result)) _ (c .before .count-history .ensures ∙ filled-tally (sound-here t) (f .fill .ensures)) (c .cost .ensures))
@@ -87,9 +87,9 @@ least-history-spec =
     enum-known-judged
     returns
     enum-told
-    short-table-requires
+    refuse-requires
     returns-2
-    short-table-requires-2
+    refuse-requires-2
     returns-3
     fill-requires
     count-history-requires

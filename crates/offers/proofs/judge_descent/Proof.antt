@@ -2,7 +2,7 @@
 use mathlib.Core.Path.{_≡_, sym, ap, _∙_}
 use Rattle.trees.specs.Rulings.{accepted, verdict, fine}
 use Rattle.trees.specs.Tables.{Pair, pair}
-use Rattle.judges.specs.Answers.{judgedOf}
+use Rattle.trees.specs.Answers.{judgedOf}
 use Rattle.histories.specs.Histories.{told, everyNode}
 use Rattle.histories.specs.Rules.{descentRules}
 use Rattle.counts.specs.Tallies.{talliedOf}

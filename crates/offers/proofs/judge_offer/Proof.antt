@@ -1,11 +1,10 @@
 -- `offers::judge_offer`. Assumes nothing.
 use mathlib.Core.Path.{_≡_, sym, ap, _∙_}
-use Rattle.trees.specs.Rulings.{verdict, accepted, fine}
+use Rattle.trees.specs.Rulings.{verdict, accepted, refusedBy, fine}
 use Rattle.trees.specs.Tables.{Pair, pair}
 use Rattle.trees.specs.Rules.{pairRules}
-use Rattle.judges.specs.Answers.{judgedOf}
+use Rattle.trees.specs.Answers.{judgedOf}
 use Rattle.histories.proofs.Rooms.{short-places, short-labels}
-use Rattle.offers.specs.Answers.{offeredOf}
 use Rattle.offers.proofs.Descents.{offer-refused, offer-short, offer-descent, offerable}
 use borrow.Author.Needs.{needs}
 use Rattle.offers.proofs.judge_offer.Statement.{statement}
@@ -33,17 +32,17 @@ returns c = let j = c .before .before .before in sym (offer-refused (tables (sta
 enum-told : tie.Need-enum-told
 enum-told c = search needs
 
-short-table-requires : tie.Need-short-table-requires
-short-table-requires c κs = search needs
+refuse-requires : tie.Need-refuse-requires
+refuse-requires c κs = search needs
 
 returns-2 : tie.Need-returns-2
-returns-2 c = let t = c .before .before in let w = tables (start (t .before .before)) in ap offeredOf (c .short-table .ensures) ∙ sym (offer-short w _ _ (fine-here t) (short-places w _ _ (c .before .if1 .taken)))
+returns-2 c = let t = c .before .before in let w = tables (start (t .before .before)) in ap refusedBy (c .refuse .ensures) ∙ sym (offer-short w _ _ (fine-here t) (short-places w _ _ (c .before .if1 .taken)))
 
-short-table-requires-2 : tie.Need-short-table-requires-2
-short-table-requires-2 c κs = search needs
+refuse-requires-2 : tie.Need-refuse-requires-2
+refuse-requires-2 c κs = search needs
 
 returns-3 : tie.Need-returns-3
-returns-3 c = let e = c .before .before in let t = e .before in let w = tables (start (t .before .before)) in ap offeredOf (c .short-table2 .ensures) ∙ sym (offer-short w _ _ (fine-here t) (short-labels w _ _ (e .if1 .left) (c .before .if2 .taken)))
+returns-3 c = let e = c .before .before in let t = e .before in let w = tables (start (t .before .before)) in ap refusedBy (c .refuse2 .ensures) ∙ sym (offer-short w _ _ (fine-here t) (short-labels w _ _ (e .if1 .left) (c .before .if2 .taken)))
 
 judge-descent-requires : tie.Need-judge-descent-requires
 judge-descent-requires c κs = let e = c .before in let t = e .before in offerable (tables (start (t .before .before))) _ _ (fine-here t) (e .if1 .left) (c .if2 .left)
@@ -59,9 +58,9 @@ judge-offer-spec =
     enum-known-judged
     returns
     enum-told
-    short-table-requires
+    refuse-requires
     returns-2
-    short-table-requires-2
+    refuse-requires-2
     returns-3
     judge-descent-requires
     returns-4)

@@ -4,7 +4,7 @@ use Prim.Native.Nat.{_+_}
 use native.Mathlib.Omega.{arith}
 use mathlib.Core.Path.{_≡_}
 use lib.ListN.{length}
-use Rattle.reading.specs.Numbers.{decimal}
+use Rattle.numbers.specs.Numbers.{decimal}
 use Rattle.printing.proofs.Decimal.{decimal-fewer, decimal-one, decimal-64}
 use Rattle.printing.proofs.digit_count.Statement.{statement}
 use Rattle.printing.proofs.digit_count.Tie as tie

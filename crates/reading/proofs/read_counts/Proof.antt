@@ -7,8 +7,8 @@ use borrow.Author.Tests.{not-true, not-false}
 use borrow.Author.Needs.{needs}
 use Rattle.trees.proofs.Bools.{true-T}
 use Rattle.reading.specs.Reading.{counted}
-use Rattle.reading.specs.Readers.{numberOf}
-use Rattle.reading.proofs.Cursor.{Got, number-got, number-none}
+use Rattle.numbers.specs.Promises.{numberOf}
+use Rattle.numbers.proofs.Cursor.{Got, number-got, number-none}
 use Rattle.reading.proofs.Counted.{sizes-refused, count-long, count-first, count-second, count-species, count-genes, count-right}
 use Rattle.reading.proofs.read_counts.Statement.{statement}
 use Rattle.reading.proofs.read_counts.Tie as tie

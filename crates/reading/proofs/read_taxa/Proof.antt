@@ -5,8 +5,9 @@ use mathlib.Core.Path.{_≡_, refl, sym, ap, _∙_}
 use mathlib.Core.List.{List}
 use lib.ListN.{length, take, replicate, length-set}
 use borrow.Author.Needs.{needs}
-use Rattle.reading.specs.Readers.{numberOf, Taken}
-use Rattle.reading.proofs.Cursor.{Got, number-got}
+use Rattle.numbers.specs.Promises.{numberOf}
+use Rattle.reading.specs.Readers.{Taken}
+use Rattle.numbers.proofs.Cursor.{Got, number-got}
 use Rattle.reading.proofs.Filling.{taken-none, fill-end, fill-more, fill-none}
 use Rattle.reading.proofs.read_taxa.Statement.{statement}
 use Rattle.reading.proofs.read_taxa.Tie as tie

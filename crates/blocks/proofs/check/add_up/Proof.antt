@@ -1,46 +1,62 @@
--- `add_up` meets its contract. The loop's invariant: what is left of the bytes leads from x and y to the two sums, and the next byte counts
--- `times` times. The measure is what is left of the 254 words. Assumes nothing.
-use Prim.Native.Nat.{_+_, _*_, _-_, _≤_}
+-- `add_up` meets its contract. The loop's invariant: the bytes that are left lead from the sums so far to the sums of all.
+-- The measure is what is left of the 508 bytes. Assumes nothing.
+use Prim.Native.Nat.{_-_, _%_, _≤_}
 use native.Mathlib.Omega.{arith}
 use mathlib.Core.Path.{_≡_, refl}
 use lib.ListN.{take}
 use borrow.Author.Needs.{needs}
-use Rattle.blocks.proofs.Sums.{SumsAt, sums-none, sums-two, sums-end}
+use Rattle.blocks.specs.Answers.{sumsOf}
+use Rattle.blocks.proofs.Sums.{SumsAt, sums-four, sums-end}
 use Rattle.blocks.proofs.check.add_up.Statement.{statement}
 use Rattle.blocks.proofs.check.add_up.Tie as tie
 
 abbrev Inv-loop : tie.InvT-loop
-Inv-loop b x₀ y₀ times₀ i₀ x y times i = (i ≤ 254) × (times ≡ 508 - 2 * i) × SumsAt (take 508 b) (2 * i) x y
+Inv-loop b s₀ i₀ s i = (i ≤ 508) × (i % 4 ≡ 0) × SumsAt (take 508 b) i (sumsOf s)
 
 abbrev μ-loop : tie.MeasureT-loop
-μ-loop b x₀ y₀ times₀ i₀ x y times i = 254 - i
+μ-loop b s₀ i₀ s i = 508 - i
+
+abbrev entry : tie.At-loop Inv-loop μ-loop → tie.Start Inv-loop μ-loop
+entry p = p .before .before
+
+abbrev at-loop : tie.After-grow4 Inv-loop μ-loop → tie.At-loop Inv-loop μ-loop
+at-loop c = c .before .before .before .before .before .before .before .before .before
 
 loop-holds : tie.Need-loop-holds Inv-loop μ-loop
-loop-holds c = (omega arith, refl, sums-none _)
+loop-holds c = (omega arith, refl, refl)
 
-mul-word-at : tie.Need-mul-word-at Inv-loop μ-loop
-mul-word-at c = omega arith
+shared-slice-read-grow : tie.Need-shared-slice-read-grow Inv-loop μ-loop
+shared-slice-read-grow c = omega arith
 
-word-at-requires : tie.Need-word-at-requires Inv-loop μ-loop
-word-at-requires c κs = omega (arith, c .loop-test .taken, c .before .before .before .pre)
+grow-requires : tie.Need-grow-requires Inv-loop μ-loop
+grow-requires c κs = search needs
 
-add-both : tie.Need-add-both Inv-loop μ-loop
-add-both c = omega arith
+add-grow : tie.Need-add-grow Inv-loop μ-loop
+add-grow c = omega arith
 
-wrapped-requires : tie.Need-wrapped-requires Inv-loop μ-loop
-wrapped-requires c κs = search needs
+shared-slice-read-grow-2 : tie.Need-shared-slice-read-grow-2 Inv-loop μ-loop
+shared-slice-read-grow-2 c = omega arith
 
-weighed-requires : tie.Need-weighed-requires Inv-loop μ-loop
-weighed-requires c κs = search needs
+grow-requires-2 : tie.Need-grow-requires-2 Inv-loop μ-loop
+grow-requires-2 c κs = search needs
 
-wrapped-requires-2 : tie.Need-wrapped-requires-2 Inv-loop μ-loop
-wrapped-requires-2 c κs = search needs
+add-grow-2 : tie.Need-add-grow-2 Inv-loop μ-loop
+add-grow-2 c = omega arith
 
-lessened-requires : tie.Need-lessened-requires Inv-loop μ-loop
-lessened-requires c κs = search needs
+shared-slice-read-grow-3 : tie.Need-shared-slice-read-grow-3 Inv-loop μ-loop
+shared-slice-read-grow-3 c = omega arith
 
-sub-times : tie.Need-sub-times Inv-loop μ-loop
-sub-times c = omega arith
+grow-requires-3 : tie.Need-grow-requires-3 Inv-loop μ-loop
+grow-requires-3 c κs = search needs
+
+add-grow-3 : tie.Need-add-grow-3 Inv-loop μ-loop
+add-grow-3 c = omega arith
+
+shared-slice-read-grow-4 : tie.Need-shared-slice-read-grow-4 Inv-loop μ-loop
+shared-slice-read-grow-4 c = omega arith
+
+grow-requires-4 : tie.Need-grow-requires-4 Inv-loop μ-loop
+grow-requires-4 c κs = search needs
 
 add-i : tie.Need-add-i Inv-loop μ-loop
 add-i c = omega arith
@@ -50,21 +66,15 @@ loop-less c = omega arith
 
 loop-again : tie.Need-loop-again Inv-loop μ-loop
 loop-again c =
-    let w = c .before .before .before .before in
-    let l = w .before in
-    let p = l .before in
-    let k = p .before in
-    let b = k .before .args .b .now in
-    let i = p .loop .i in (
-      omega (arith, l .loop-test .taken),
-      omega (arith, p .loop .inv .1, l .loop-test .taken),
-      sums-two b (omega (arith, k .before .pre)) (2 * i) i _ _ (p .loop .times) _ _ _ _ _ _ _ (p .loop .inv .2) refl (l .loop-test .taken) (p .loop .inv .1)
-          (omega (arith, k .shared-slice-known .given (2 * i))) (omega (arith, k .shared-slice-known .given (2 * i + 1)))
-          (w .word-at .ensures) refl refl (c .before .before .before .wrapped .ensures) (c .before .before .weighed .ensures) (c .before .wrapped2 .ensures) (c .lessened .ensures),
+    let p = at-loop c in (
+      omega arith,
+      omega arith,
+      sums-four (entry p .args .b .now) (omega (arith, entry p .pre)) (p .loop .i) _ _ _ _ _ (omega arith) (p .loop .inv .2)
+          (c .before .before .before .before .before .before .grow .ensures) (c .before .before .before .before .grow2 .ensures) (c .before .before .grow3 .ensures) (c .grow4 .ensures),
     )
 
 returns : tie.Need-returns Inv-loop μ-loop
-returns c = let p = c .before in sums-end (p .before .before .args .b .now) (omega (arith, p .before .before .pre)) (2 * p .loop .i) _ _ (p .loop .inv .2) (omega (arith, c .loop-test .left))
+returns c = let p = c .before in sums-end (entry p .args .b .now) (omega (arith, entry p .pre)) (p .loop .i) _ (c .loop-test .left) (p .loop .inv .2)
 
 pub add-up-spec : {M : Type 1} → statement M
 add-up-spec =
@@ -73,14 +83,17 @@ add-up-spec =
     Inv-loop
     μ-loop
     loop-holds
-    mul-word-at
-    word-at-requires
-    add-both
-    wrapped-requires
-    weighed-requires
-    wrapped-requires-2
-    lessened-requires
-    sub-times
+    shared-slice-read-grow
+    grow-requires
+    add-grow
+    shared-slice-read-grow-2
+    grow-requires-2
+    add-grow-2
+    shared-slice-read-grow-3
+    grow-requires-3
+    add-grow-3
+    shared-slice-read-grow-4
+    grow-requires-4
     add-i
     loop-less
     loop-again

@@ -1,4 +1,5 @@
 -- `sealed` meets its contract. Assumes nothing.
+use mathlib.Core.Path.{ap}
 use borrow.Author.Needs.{needs}
 use Rattle.blocks.specs.Blocks.{checked}
 use Rattle.blocks.proofs.Both.{both-second, both-first}
@@ -16,11 +17,11 @@ word-at-requires-2 c κs = search needs
 
 returns : tie.Need-returns
 unfolding checked
-returns c = let a = c .before .before .before .add-up in both-second _ _ _ _ _ _ _ _ (c .before .before .word-at .ensures) (c .word-at2 .ensures) (a .ensures .0) (a .ensures .1) (c .before .if1 .taken)
+returns c = let a = c .before .before .before .add-up in both-second _ _ _ _ _ _ _ _ (c .before .before .word-at .ensures) (c .word-at2 .ensures) (ap (λ t. t .a) (a .ensures)) (ap (λ t. t .b) (a .ensures)) (c .before .if1 .taken)
 
 returns-2 : tie.Need-returns-2
 unfolding checked
-returns-2 c = both-first _ _ _ _ _ (c .before .word-at .ensures) (c .before .before .add-up .ensures .0) (c .if1 .left)
+returns-2 c = both-first _ _ _ _ _ (c .before .word-at .ensures) (ap (λ t. t .a) (c .before .before .add-up .ensures)) (c .if1 .left)
 
 pub sealed-spec : {M : Type 1} → statement M
 sealed-spec =

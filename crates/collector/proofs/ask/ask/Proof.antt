@@ -5,7 +5,7 @@ use mathlib.Core.Path.{_≡_, sym, ap, _∙_}
 use mathlib.Core.Bool.{true}
 use borrow.Author.Tests.{not-true, not-false}
 use lib.Seq.{length-take-le}
-use Rattle.images.specs.Answers.{loadedOf}
+use Rattle.trees.specs.Rulings.{refusedBy}
 use Rattle.collector.specs.Host.{fits}
 use Rattle.collector.proofs.Asking.{host-unfit, host-fit, host-long, fit-lengths}
 use borrow.Author.Needs.{needs}
@@ -25,13 +25,13 @@ no-tables-requires : tie.Need-no-tables-requires
 no-tables-requires c κs = search needs
 
 returns : tie.Need-returns
-returns c = ap loadedOf (c .no-tables .ensures) ∙ host-unfit _ _ _ (sym (c .before .before .fitting .ensures) ∙ not-true _ (c .before .if1 .taken))
+returns c = ap refusedBy (c .no-tables .ensures) ∙ host-unfit _ _ _ (sym (c .before .before .fitting .ensures) ∙ not-true _ (c .before .if1 .taken))
 
 no-tables-requires-2 : tie.Need-no-tables-requires-2
 no-tables-requires-2 c κs = search needs
 
 returns-2 : tie.Need-returns-2
-returns-2 c = ap loadedOf (c .no-tables2 .ensures) ∙ host-long _ _ _ (fit-here (c .before .before)) (c .before .if2 .taken)
+returns-2 c = ap refusedBy (c .no-tables2 .ensures) ∙ host-long _ _ _ (fit-here (c .before .before)) (c .before .if2 .taken)
 
 array-borrow-prefix-species-parents : tie.Need-array-borrow-prefix-species-parents
 array-borrow-prefix-species-parents c = search needs

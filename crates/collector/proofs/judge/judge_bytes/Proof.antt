@@ -3,7 +3,7 @@ use Prim.Native.Nat.{ℕ}
 use mathlib.Core.Path.{ap₂, _∙_}
 use mathlib.Core.List.{List}
 use Rattle.trees.specs.Rulings.{verdict}
-use Rattle.images.specs.Judging.{imageRules}
+use Rattle.judging.specs.Judging.{imageRules}
 use borrow.Author.Needs.{needs}
 use Rattle.collector.proofs.judge.judge_bytes.Statement.{statement}
 use Rattle.collector.proofs.judge.judge_bytes.Tie as tie

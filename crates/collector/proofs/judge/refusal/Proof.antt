@@ -4,8 +4,8 @@ use mathlib.Core.Path.{_≡_, sym, ap, _∙_}
 use mathlib.Core.Bool.{true}
 use lib.ListN.{length}
 use borrow.Author.Tests.{not-true, not-false}
-use Rattle.judges.specs.Answers.{judgedOf}
-use Rattle.images.specs.Judging.{plain}
+use Rattle.trees.specs.Rulings.{refusedBy}
+use Rattle.judging.specs.Judging.{plain}
 use Rattle.collector.specs.Host.{fits, Halved}
 use Rattle.collector.proofs.Asking.{host-unfit, host-judged, host-long, fit-lengths}
 use borrow.Author.Needs.{needs}
@@ -29,13 +29,13 @@ no-tables-requires : tie.Need-no-tables-requires
 no-tables-requires c κs = search needs
 
 returns : tie.Need-returns
-returns c = ap judgedOf (c .no-tables .ensures) ∙ ap plain (host-unfit _ _ _ (sym (c .before .before .fitting .ensures) ∙ not-true _ (c .before .if1 .taken)))
+returns c = ap refusedBy (c .no-tables .ensures) ∙ ap plain (host-unfit _ _ _ (sym (c .before .before .fitting .ensures) ∙ not-true _ (c .before .if1 .taken)))
 
 no-tables-requires-2 : tie.Need-no-tables-requires-2
 no-tables-requires-2 c κs = search needs
 
 returns-2 : tie.Need-returns-2
-returns-2 c = ap judgedOf (c .no-tables2 .ensures) ∙ ap plain (host-long _ _ _ (fit-here (c .before .before)) (c .before .if2 .taken))
+returns-2 c = ap refusedBy (c .no-tables2 .ensures) ∙ ap plain (host-long _ _ _ (fit-here (c .before .before)) (c .before .if2 .taken))
 
 judge-few-requires : tie.Need-judge-few-requires
 judge-few-requires c κs = (halved (c .before .before), c .if3 .taken)

@@ -4,7 +4,8 @@ use native.Mathlib.Omega.{arith}
 use lib.ListN.{length}
 use Rattle.blocks.specs.Halves.{wordsOf}
 use Rattle.words.proofs.Tables.{Filling, filling-start, filling-more, filling-end}
-use Rattle.words.proofs.Pieces.{length-words, word-piece}
+use Rattle.blocks.proofs.Halves.{length-joined}
+use Rattle.words.proofs.Pieces.{word-piece}
 use Rattle.words.proofs.piece.copy_words.Statement.{statement}
 use Rattle.words.proofs.piece.copy_words.Tie as tie
 
@@ -18,7 +19,7 @@ abbrev entry : tie.At-loop Inv-loop μ-loop → tie.Start Inv-loop μ-loop
 entry p = p .before .before .before
 
 loop-holds : tie.Need-loop-holds Inv-loop μ-loop
-loop-holds c = let s = c .before .before in filling-start _ _ (length-words (s .args .bytes .now) (length (s .args .out .now)) (s .pre))
+loop-holds c = let s = c .before .before in filling-start _ _ (length-joined 256 (length (s .args .out .now)) (s .args .bytes .now) (s .pre))
 
 mul-word-at : tie.Need-mul-word-at Inv-loop μ-loop
 mul-word-at c = omega (arith, c .before .loop .inv .same, entry (c .before) .pre)

@@ -3,7 +3,7 @@ use Prim.Native.Nat.{_-_}
 use native.Mathlib.Omega.{arith}
 use lib.ListN.{length}
 use Rattle.blocks.specs.Blocks.{run, content}
-use Rattle.words.proofs.Tables.{Filling, filling-start, filling-end, length-run}
+use Rattle.words.proofs.Tables.{Filling, filling-start, filling-end, length-words-in}
 use Rattle.words.proofs.Fronts.{words-asked, filling-words}
 use Rattle.words.proofs.read.read_words.Statement.{statement}
 use Rattle.words.proofs.read.read_words.Tie as tie
@@ -18,7 +18,7 @@ abbrev entry : tie.At-loop Inv-loop μ-loop → tie.Start Inv-loop μ-loop
 entry p = p .before .before .before
 
 loop-holds : tie.Need-loop-holds Inv-loop μ-loop
-loop-holds c = let s = c .before .before in filling-start _ _ (length-run (s .args .image .now) (s .args .i) _ (s .pre))
+loop-holds c = let s = c .before .before in filling-start _ _ (length-words-in (s .args .image .now) (s .args .i) _ (s .pre))
 
 add-some-words : tie.Need-add-some-words Inv-loop μ-loop
 add-some-words c = omega arith

@@ -1,0 +1,3 @@
+pub mod Dates
+pub mod Outcomes
+pub mod One

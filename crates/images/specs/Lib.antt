@@ -1,4 +1,0 @@
-pub mod Answers
-pub mod Conditions
-pub mod Outcomes
-pub mod Judging

@@ -1,0 +1,4 @@
+pub mod Filling
+pub mod Stories
+pub mod Loads
+pub mod One

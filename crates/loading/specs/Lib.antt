@@ -1,0 +1,4 @@
+pub mod Answers
+pub mod Conditions
+pub mod Outcomes
+pub mod Promises

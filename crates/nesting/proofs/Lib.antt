@@ -1,0 +1,4 @@
+pub mod Runs
+pub mod Subtrees
+pub mod Codes
+pub mod One

@@ -1,0 +1,4 @@
+pub mod Stored
+pub mod Putting
+pub mod Sealing
+pub mod One

@@ -1,0 +1,4 @@
+pub mod Counting
+pub mod Tests
+pub mod Shapes
+pub mod One

@@ -1,0 +1,3 @@
+pub mod Holding
+pub mod Lines
+pub mod Promises

@@ -1,0 +1,3 @@
+pub mod Tests
+pub mod Chains
+pub mod One

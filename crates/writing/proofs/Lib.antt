@@ -1,0 +1,3 @@
+pub mod Putting
+pub mod Writes
+pub mod One
