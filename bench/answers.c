@@ -1,59 +1,17 @@
 /* Answers requests from standard input, for compare.py.
  *
- * A request is the lengths of an image, a parents table and a taxa table, each
- * as 4 bytes low byte first, and then the bytes of all three.  The answer is
- * one line: refusal, tree, place, duplications, losses.
+ * A request (requests.h) is an image, a parents table and a taxa table.  The
+ * answer is one line: refusal, tree, place, duplications, losses.
  *
  * Compiled as it is, it asks fast.c; with -DASK_PANHERON it asks the archive.
  */
-#include <stdint.h>
-#include <stdio.h>
-#include <stdlib.h>
+#include "requests.h"
 
 #ifdef ASK_PANHERON
 #include "panheron.h"
 #else
 #include "fast.h"
 #endif
-
-enum { MOST_BYTES = 1 << 20 };
-
-/* Bytes on the heap, exactly as many as asked for, so that valgrind or a
- * sanitizer sees every step beyond them. */
-struct slice {
-    uint8_t *bytes;
-    size_t length;
-};
-
-static void stop(const char *why)
-{
-    fprintf(stderr, "answers: %s\n", why);
-    exit(2);
-}
-
-static void fill(uint8_t *bytes, size_t length)
-{
-    if (fread(bytes, 1, length, stdin) != length)
-        stop("the request is cut short");
-}
-
-static size_t length_in(const uint8_t *bytes)
-{
-    size_t length = bytes[0] | (size_t)bytes[1] << 8 | (size_t)bytes[2] << 16
-                    | (size_t)bytes[3] << 24;
-    if (length > MOST_BYTES)
-        stop("a length is over 1 MiB");
-    return length;
-}
-
-static void read_slice(struct slice *slice)
-{
-    /* an empty slice still needs a pointer that is not null */
-    slice->bytes = malloc(slice->length > 0 ? slice->length : 1);
-    if (slice->bytes == NULL)
-        stop("no memory");
-    fill(slice->bytes, slice->length);
-}
 
 #ifdef ASK_PANHERON
 static void answer(struct slice image, struct slice parents, struct slice taxa)
@@ -83,19 +41,10 @@ static void answer(struct slice image, struct slice parents, struct slice taxa)
 
 int main(void)
 {
-    uint8_t head[12];
-    size_t got;
-    while ((got = fread(head, 1, sizeof head, stdin)) == sizeof head) {
-        struct slice slices[3];
-        for (int i = 0; i < 3; i++)
-            slices[i].length = length_in(head + 4 * i);
-        for (int i = 0; i < 3; i++)
-            read_slice(&slices[i]);
+    struct slice slices[3];
+    while (next_request(slices, 3)) {
         answer(slices[0], slices[1], slices[2]);
-        for (int i = 0; i < 3; i++)
-            free(slices[i].bytes);
+        free_request(slices, 3);
     }
-    if (got != 0)
-        stop("the request is cut short");
     return fflush(stdout) == 0 ? 0 : 2;
 }

@@ -1,13 +1,14 @@
-/* Runs a call on an image a given number of times, so that its instructions
- * can be counted from outside, and measures the stack that the calls need.
+/* Runs a call a given number of times, so that its instructions can be counted
+ * from outside, and measures the stack that the calls need.
  *
  *     bench CALL SHAPE P Q TIMES   runs one of the calls listed below
  *     bench stack SHAPE P Q        prints, for each call, its name and the
  *                                  bytes of stack that it wrote to
  *
  * SHAPE is balanced, random or caterpillar, for both trees; P and Q are their
- * numbers of nodes.  The image holds the least history.  The same words always
- * make the same image.  Exit status 1: a call refused the image.
+ * numbers of nodes.  A call is given the two trees, or the image that holds
+ * them with the least history.  The same words always make the same trees.
+ * Exit status 1: a call refused them.
  */
 #include <stdbool.h>
 #include <stdint.h>
@@ -17,6 +18,7 @@
 #include <ucontext.h>
 
 #include "fast.h"
+#include "history.h"
 #include "panheron.h"
 
 enum {
@@ -37,6 +39,9 @@ struct tree {
 };
 
 /* What the calls are given. */
+static struct tree species, genes;
+static uint16_t places[MOST_NODES], labels[MOST_NODES];
+static uint64_t counts[4];
 static uint8_t image[MOST_BLOCKS * BLOCK_BYTES];
 static uint8_t parents_bytes[2 * MOST_NODES];
 static uint8_t taxa_bytes[4 * MOST_NODES];
@@ -123,59 +128,56 @@ static void name_species(struct tree *t)
     }
 }
 
-static void name_genes(struct tree *genes, const struct tree *species)
+static void name_genes(void)
 {
     bool leaf[MOST_NODES];
-    mark_leaves(genes, leaf);
-    for (size_t i = 0; i < genes->count; i++) {
-        genes->taxa[i] = 0;
-        while (leaf[i] && genes->taxa[i] == 0)
-            genes->taxa[i] =
-                species->taxa[random_below((uint32_t)species->count)];
+    mark_leaves(&genes, leaf);
+    for (size_t i = 0; i < genes.count; i++) {
+        genes.taxa[i] = 0;
+        while (leaf[i] && genes.taxa[i] == 0)
+            genes.taxa[i] = species.taxa[random_below((uint32_t)species.count)];
     }
 }
 
 /* The least history */
 
-static uint16_t leaf_of(const struct tree *species, uint32_t taxon)
+static uint16_t leaf_of(uint32_t taxon)
 {
     uint16_t i = 0;
-    while (species->taxa[i] != taxon)
+    while (species.taxa[i] != taxon)
         i++;
     return i;
 }
 
-static uint16_t common_ancestor(const struct tree *species, uint16_t a,
-                                uint16_t b)
+static uint16_t common_ancestor(uint16_t a, uint16_t b)
 {
     while (a != b) {
         if (a > b)
-            a = species->parents[a];
+            a = species.parents[a];
         else
-            b = species->parents[b];
+            b = species.parents[b];
     }
     return a;
 }
 
-static void make_history(const struct tree *species, const struct tree *genes,
-                         uint16_t *places, uint16_t *labels)
+static void make_history(void)
 {
     bool placed[MOST_NODES] = {false};
-    for (size_t i = 0; i < genes->count; i++) {
+    for (size_t i = 0; i < genes.count; i++) {
         labels[i] = 0;
-        if (genes->taxa[i] != 0)
-            places[i] = leaf_of(species, genes->taxa[i]);
+        if (genes.taxa[i] != 0)
+            places[i] = leaf_of(genes.taxa[i]);
     }
-    for (size_t i = genes->count - 1; i > 0; i--) {
-        uint16_t above = genes->parents[i];
+    for (size_t i = genes.count - 1; i > 0; i--) {
+        uint16_t above = genes.parents[i];
         if (placed[above])
-            places[above] = common_ancestor(species, places[above], places[i]);
+            places[above] = common_ancestor(places[above], places[i]);
         else
             places[above] = places[i];
         placed[above] = true;
     }
-    for (size_t i = 1; i < genes->count; i++) {
-        uint16_t above = genes->parents[i];
+    for (size_t i = 1; i < genes.count; i++) {
+        uint16_t above = genes.parents[i];
         if (places[i] == places[above])
             labels[above] = 2;
         else if (labels[above] == 0)
@@ -221,19 +223,18 @@ static void seal(uint8_t *block, size_t number)
     put_word(block + 510, b);
 }
 
-static void make_image(const struct tree *species, const struct tree *genes)
+static void make_image(void)
 {
-    uint16_t places[MOST_NODES], labels[MOST_NODES];
     size_t words = 0;
-    make_history(species, genes, places, labels);
+    make_history();
     add_word(&words, 1);
-    add_word(&words, (uint32_t)species->count);
-    add_word(&words, (uint32_t)genes->count);
-    add_tree(&words, species);
-    add_tree(&words, genes);
-    for (size_t i = 0; i < genes->count; i++)
+    add_word(&words, (uint32_t)species.count);
+    add_word(&words, (uint32_t)genes.count);
+    add_tree(&words, &species);
+    add_tree(&words, &genes);
+    for (size_t i = 0; i < genes.count; i++)
         add_word(&words, places[i]);
-    for (size_t i = 0; i < genes->count; i++)
+    for (size_t i = 0; i < genes.count; i++)
         add_word(&words, labels[i]);
     for (size_t k = 0; k * CONTENT_WORDS < words; k++) {
         seal(image + k * BLOCK_BYTES, k);
@@ -241,15 +242,15 @@ static void make_image(const struct tree *species, const struct tree *genes)
     }
 }
 
-static void make_rack(const struct tree *species)
+static void make_rack(void)
 {
-    for (size_t i = 0; i < species->count; i++) {
-        put_word(parents_bytes + 2 * i, species->parents[i]);
-        put_word(taxa_bytes + 4 * i, species->taxa[i] & 65535);
-        put_word(taxa_bytes + 4 * i + 2, species->taxa[i] >> 16);
+    for (size_t i = 0; i < species.count; i++) {
+        put_word(parents_bytes + 2 * i, species.parents[i]);
+        put_word(taxa_bytes + 4 * i, species.taxa[i] & 65535);
+        put_word(taxa_bytes + 4 * i + 2, species.taxa[i] >> 16);
     }
-    parents_len = 2 * species->count;
-    taxa_len = 4 * species->count;
+    parents_len = 2 * species.count;
+    taxa_len = 4 * species.count;
 }
 
 static size_t count_in(const char *text)
@@ -262,38 +263,51 @@ static size_t count_in(const char *text)
 
 static void make_inputs(char **words)
 {
-    static struct tree species, genes;
     make_shape(&species, words[0], count_in(words[1]));
     make_shape(&genes, words[0], count_in(words[2]));
     name_species(&species);
-    name_genes(&genes, &species);
-    make_rack(&species);
-    make_image(&species, &genes);
+    name_genes();
+    make_rack();
+    make_image();
 }
 
-/* The calls */
+/* The calls: about an image, or about the two trees.  A null one is neither. */
 
-typedef uint32_t call(const uint8_t *, size_t, const uint8_t *, size_t,
-                      const uint8_t *, size_t);
+typedef uint32_t image_call(const uint8_t *, size_t, const uint8_t *, size_t,
+                            const uint8_t *, size_t);
+typedef uint32_t history_call(const uint16_t *, size_t, const uint32_t *,
+                              size_t, const uint16_t *, size_t,
+                              const uint32_t *, size_t, uint16_t *, size_t,
+                              uint16_t *, size_t, uint64_t *, size_t);
 
-static const struct {
+struct call {
     const char *name;
-    call *run;
-} calls[] = {
-    {"panheron_refusal", panheron_refusal},
-    {"panheron_tree", panheron_tree},
-    {"panheron_place", panheron_place},
-    {"panheron_duplications", panheron_duplications},
-    {"panheron_losses", panheron_losses},
-    {"fast_refusal", fast_refusal},
-    {"fast_refusal_bytewise", fast_refusal_bytewise},
+    image_call *of_image;
+    history_call *of_trees;
+};
+
+static const struct call calls[] = {
+    {"panheron_refusal", panheron_refusal, NULL},
+    {"panheron_tree", panheron_tree, NULL},
+    {"panheron_place", panheron_place, NULL},
+    {"panheron_duplications", panheron_duplications, NULL},
+    {"panheron_losses", panheron_losses, NULL},
+    {"fast_refusal", fast_refusal, NULL},
+    {"fast_refusal_bytewise", fast_refusal_bytewise, NULL},
+    {"panheron_history", NULL, panheron_history},
+    {"plain_history", NULL, plain_history},
 };
 enum { CALLS = sizeof calls / sizeof calls[0] };
 
-static uint32_t ask(call *run)
+static uint32_t ask(const struct call *call)
 {
-    return run(image, image_len, parents_bytes, parents_len, taxa_bytes,
-               taxa_len);
+    if (call->of_image != NULL)
+        return call->of_image(image, image_len, parents_bytes, parents_len,
+                              taxa_bytes, taxa_len);
+    return call->of_trees(species.parents, species.count, species.taxa,
+                          species.count, genes.parents, genes.count,
+                          genes.taxa, genes.count, places, genes.count, labels,
+                          genes.count, counts, 4);
 }
 
 static int run_many(const char *name, const char *times)
@@ -303,7 +317,7 @@ static int run_many(const char *name, const char *times)
         if (strcmp(name, calls[i].name) != 0)
             continue;
         while (left-- > 0)
-            if (ask(calls[i].run) != 0)
+            if (ask(&calls[i]) != 0)
                 return 1;
         return 0;
     }
@@ -314,27 +328,40 @@ static int run_many(const char *name, const char *times)
 /* Stack: the call runs on a stack of its own that was painted before.  What
  * running nothing leaves there is taken off. */
 
-static uint32_t nothing(const uint8_t *i, size_t i_len, const uint8_t *p,
-                        size_t p_len, const uint8_t *t, size_t t_len)
+static uint32_t no_image(const uint8_t *i, size_t i_len, const uint8_t *p,
+                         size_t p_len, const uint8_t *t, size_t t_len)
 {
     (void)i, (void)i_len, (void)p, (void)p_len, (void)t, (void)t_len;
     return 0;
 }
 
+static uint32_t no_history(const uint16_t *sp, size_t sp_count,
+                           const uint32_t *st, size_t st_count,
+                           const uint16_t *gp, size_t gp_count,
+                           const uint32_t *gt, size_t gt_count, uint16_t *p,
+                           size_t p_count, uint16_t *l, size_t l_count,
+                           uint64_t *c, size_t c_count)
+{
+    (void)sp, (void)sp_count, (void)st, (void)st_count, (void)gp;
+    (void)gp_count, (void)gt, (void)gt_count, (void)p, (void)p_count;
+    (void)l, (void)l_count, (void)c, (void)c_count;
+    return 0;
+}
+
 static ucontext_t outside, inside;
-static call *measured;
+static const struct call *measured;
 
 static void run_inside(void)
 {
     ask(measured);
 }
 
-static size_t stack_of(call *run)
+static size_t stack_of(const struct call *call)
 {
     static uint8_t stack[STACK_BYTES];
     size_t untouched = 0;
     memset(stack, PAINT, sizeof stack);
-    measured = run;
+    measured = call;
     if (getcontext(&inside) != 0)
         stop("no context");
     inside.uc_stack.ss_sp = stack;
@@ -350,9 +377,13 @@ static size_t stack_of(call *run)
 
 static int print_stacks(void)
 {
-    size_t base = stack_of(nothing);
-    for (size_t i = 0; i < CALLS; i++)
-        printf("%s %zu\n", calls[i].name, stack_of(calls[i].run) - base);
+    static const struct call nothing[] = {{"", no_image, NULL},
+                                          {"", NULL, no_history}};
+    for (size_t i = 0; i < CALLS; i++) {
+        bool of_image = calls[i].of_image != NULL;
+        size_t base = stack_of(&nothing[of_image ? 0 : 1]);
+        printf("%s %zu\n", calls[i].name, stack_of(&calls[i]) - base);
+    }
     return 0;
 }
 

@@ -1,14 +1,16 @@
 #!/bin/sh
-# Measures panheron_refusal against C: executed instructions, and stack.
+# Measures panheron_refusal and panheron_history against C: executed instructions,
+# and stack.
 #
 #   bench/run.sh [ARCHIVE]
 #
 # Without ARCHIVE it is built first.  fast C is fast.c; bytewise C is the same
-# with the check of a block as 01 writes it, a byte at a time.  Instructions are
-# those of one call: the difference of two runs that differ in the number of
-# calls alone, by valgrind or, where there is none, by qemu and icount.c.  They
-# vary by some ten from run to run, with where the stack begins.  Of the stack it
-# is the bytes down to the lowest that a call writes to, the most over all rows.
+# with the check of a block as 01 writes it, a byte at a time; plain C is
+# history.c, in a kilobyte.  Instructions are those of one call: the difference of
+# two runs that differ in the number of calls alone, by valgrind or, where there
+# is none, by qemu and icount.c.  They vary by some ten from run to run, with where
+# the stack begins.  Of the stack it is the bytes down to the lowest that a call
+# writes to, the most over all rows, and then what stack.sh reads from the code.
 set -u
 root=$(dirname "$(dirname "$(readlink -f "$0")")")
 . "$root/tools/common.sh"
@@ -37,7 +39,7 @@ fi
 link=-static
 here=$root/bench
 compile "$work/fast.o" -O3 -funroll-loops -c "$here/fast.c" || exit 3
-compile "$work/bench" -I "$here" "$here/bench.c" "$work/fast.o" "$archive" || exit 3
+compile "$work/bench" -I "$here" "$here/bench.c" "$here/history.c" "$work/fast.o" "$archive" || exit 3
 
 # ---- counting
 
@@ -61,9 +63,9 @@ count() { # WORDS..
     fi
 }
 
-# The instructions of one call, which has to accept the image.
+# The instructions of one call, which has to accept what it is given.
 instructions() { # CALL SHAPE P Q
-    ${emulator:+"$emulator"} "$work/bench" "$@" 1 || fail "the image is refused: $*"
+    ${emulator:+"$emulator"} "$work/bench" "$@" 1 || fail "refused: $*"
     once=$(count "$@" "$calls")
     twice=$(count "$@" $((2 * calls)))
     case :$once:$twice: in *::*) fail "no count of: $*" ;; esac
@@ -75,7 +77,7 @@ ratio() { awk -v a="$1" -v b="$2" 'BEGIN { printf "%.2f", a / b }'; }
 # ---- the tables
 
 find_counter
-printf '%-12s %5s %5s %12s %12s %6s %12s %6s\n' tree p q Panheron 'fast C' ratio 'bytewise C' ratio
+printf '%-12s %5s %5s %12s %12s %6s %12s %6s\n' refusal p q Panheron 'fast C' ratio 'bytewise C' ratio
 for size in $sizes; do
     p=${size%,*} q=${size#*,}
     for shape in $shapes; do
@@ -87,7 +89,18 @@ for size in $sizes; do
     done
 done
 
-printf '\n%-24s %s\n' call 'bytes of stack'
+printf '\n%-12s %5s %5s %12s %12s %6s\n' history p q Panheron 'plain C' ratio
+for size in $sizes; do
+    p=${size%,*} q=${size#*,}
+    for shape in $shapes; do
+        panheron=$(instructions panheron_history "$shape" "$p" "$q") || exit 3
+        plain=$(instructions plain_history "$shape" "$p" "$q") || exit 3
+        printf '%-12s %5d %5d %12d %12d %6s\n' "$shape" "$p" "$q" "$panheron" \
+            "$plain" "$(ratio "$panheron" "$plain")"
+    done
+done
+
+printf '\n%-24s %s\n' call 'bytes written'
 for size in $sizes; do
     for shape in $shapes; do
         ${emulator:+"$emulator"} "$work/bench" stack "$shape" "${size%,*}" "${size#*,}"
@@ -96,3 +109,6 @@ done | awk '
     !($1 in most) { order[++n] = $1 }
     $2 > most[$1] { most[$1] = $2 }
     END { for (i = 1; i <= n; i++) printf "%-24s %d\n", order[i], most[order[i]] }'
+
+echo
+"$here/stack.sh" "$archive"

@@ -1,25 +1,29 @@
-/* Panheron for C: judges stored images of gene histories against a release.
+/* Panheron for C: judges stored images of gene histories against a release, and
+ * works out the least history of a gene tree.
  *
  * Link target/staticlib/libcollector.a (x86-64 Linux; `rt staticlib collector`
  * writes it).  The archive needs at most memcpy and memset from outside.
  *
- * Every call is given the same three slices, each a pointer and a length in
- * bytes:
+ * Nothing has to be tested before a call: any bytes and entries, of any length,
+ * are safe, and each fault is refused by its number.  What a call is given to
+ * read it reads during the call and never writes.  The calls keep no memory,
+ * allocate none and have no state: all they use is stack, and they may run on
+ * several threads at once.
  *
- *   image    one stored image, form 1, whole: what lies behind it counts too
- *   parents  the rack's species parents, 2 bytes a node, low byte first
- *   taxa     the rack's species taxa, 4 bytes a node, low byte first
+ * An empty slice or table needs a pointer too: any that is not null.  Nothing is
+ * read or written through it.
  *
- * Lengths that don't make two equal tables of 1 to 2,047 nodes are refused by
- * number 1, as is every other fault by its own.  Any bytes of any length are
- * safe: nothing has to be tested before a call.
+ * There are two kinds of calls:
  *
- * The slices are read during the call and never written.  The calls keep no
- * memory, allocate none and have no state: all they use is stack, some 58,000
- * bytes at the most, and they may run on several threads at once.
+ *                                      given                       stack
+ *   about a stored image               three slices of bytes       60,000 bytes
+ *   panheron_history, _tree, _place    tables of numbers           2,048 bytes
  *
- * An empty slice needs a pointer too: any that is not null.  Nothing is read
- * through it.
+ * The stack is the most that the machine code can use: the return address and
+ * all that is called are in it, arguments that the caller puts there are not.
+ * Where a program's stack is that small, link it with -static or -Wl,-z,now:
+ * bound lazily, the first call of memset takes the dynamic linker's stack too,
+ * some 3,000 bytes.
  */
 #ifndef PANHERON_H
 #define PANHERON_H
@@ -31,14 +35,20 @@
 extern "C" {
 #endif
 
-/* The refusal numbers, with what panheron_place gives and, in brackets, what
- * panheron_tree gives.  A number is found over the whole table or image before
- * the next is looked for: first 1 to 5 in the rack's tables, then 13 to 18,
- * then 2, 3, 4, 6 and 8 to 11 in the gene tree of the image. */
+/* The refusal numbers, with the place that panheron_place or
+ * panheron_history_place gives and, in brackets, the tree that panheron_tree or
+ * panheron_history_tree gives.  A number is found over the whole table or image
+ * before the next is looked for.
+ *
+ *   about an image    1 to 5 in the rack's tables, then 13 to 18, then 2, 3, 4, 6
+ *                     and 8 to 11 in the gene tree of the image
+ *   panheron_history  1 to 5 in the species tables, then 1, 2, 3, 4 and 6 in the
+ *                     gene tables, then 7 */
 enum panheron_number {
     PANHERON_ACCEPTED = 0,          /* none: place 0 [0] */
     PANHERON_TABLE_SIZE = 1,        /* a table is empty or over 2,047 nodes, or
-                                       the two differ in length: 0 [1] */
+                                       the two of a tree differ in length:
+                                       0 [1, 2] */
     PANHERON_PARENT_ORDER = 2,      /* a parent is not 65,535 at node 0, or not
                                        below its node elsewhere: node [1, 2] */
     PANHERON_CHILD_COUNT = 3,       /* a node has neither no children nor two:
@@ -49,7 +59,10 @@ enum panheron_number {
                                        of a lower number too: node [1] */
     PANHERON_TAXON_UNKNOWN = 6,     /* a gene leaf's taxon is no species taxon:
                                        node [2] */
-    PANHERON_LENT_TABLE_SHORT = 7,  /* never given by these calls */
+    PANHERON_LENT_TABLE_SHORT = 7,  /* places or labels have fewer entries than
+                                       the gene tree has nodes, or counts fewer
+                                       than four; given by panheron_history
+                                       alone: 0 [0] */
     PANHERON_PLACE_OR_LABEL = 8,    /* a place is no species node, or a label is
                                        of the wrong kind: node [2] */
     PANHERON_LEAF_MISPLACED = 9,    /* a gene leaf is not at its species:
@@ -74,6 +87,16 @@ enum panheron_number {
 
 /* The place of number 18 for another number of species nodes. */
 #define PANHERON_COUNTS_DIFFER 65535
+
+/* Calls about a stored image.  Each is given the same three slices, a pointer
+ * and a length in bytes:
+ *
+ *   image    one stored image, form 1, whole: what lies behind it counts too
+ *   parents  the rack's species parents, 2 bytes a node, low byte first
+ *   taxa     the rack's species taxa, 4 bytes a node, low byte first
+ *
+ * Lengths that don't make two equal tables of 1 to 2,047 nodes are refused by
+ * number 1. */
 
 /* The number by which the image is refused, or 0 if it is accepted. */
 uint32_t panheron_refusal(const uint8_t *image, size_t image_len,
@@ -103,6 +126,63 @@ uint32_t panheron_duplications(const uint8_t *image, size_t image_len,
 uint32_t panheron_losses(const uint8_t *image, size_t image_len,
                          const uint8_t *parents, size_t parents_len,
                          const uint8_t *taxa, size_t taxa_len);
+
+/* The least history of a gene tree on a species tree.
+ *
+ * Each table is a pointer and its number of entries: of entries, not of bytes.
+ * A tree comes as two tables with one entry a node, the nodes numbered from 0:
+ *
+ *   parents  65,535 for node 0; for every other node the number of its parent,
+ *            which is less than its own
+ *   taxa     the taxon of a leaf, never 0; 0 for an inner node
+ *
+ * Species nodes and gene nodes are counted apart, each from 0.  A species parent
+ * is a species node, a gene parent a gene node.  Both tables of a tree have the
+ * same number of entries, 1 to 2,047; q is that of the gene tree.
+ *
+ * Three tables are lent to be written, with room for at least
+ *
+ *   places   q entries: by gene node, the species node that it sits at
+ *   labels   q entries: by gene node, one of panheron_label
+ *   counts   4 entries: duplications, losses, speciations and climbs
+ *
+ * Answers 0 and fills the first q entries of places and labels and the first
+ * four of counts; or answers the number of the refusal (1 to 7), and then all
+ * three are as they were.  Entries behind the q-th and the fourth are never
+ * written, and what the lent tables hold before the call doesn't matter.  They
+ * may overlap neither one another nor the four tables that are read. */
+enum panheron_label {
+    PANHERON_LEAF = 0,
+    PANHERON_SPECIATION = 1,
+    PANHERON_DUPLICATION = 2
+};
+
+uint32_t panheron_history(
+    const uint16_t *species_parents, size_t species_parents_count,
+    const uint32_t *species_taxa, size_t species_taxa_count,
+    const uint16_t *gene_parents, size_t gene_parents_count,
+    const uint32_t *gene_taxa, size_t gene_taxa_count,
+    uint16_t *places, size_t places_count,
+    uint16_t *labels, size_t labels_count,
+    uint64_t *counts, size_t counts_count);
+
+/* The tree that panheron_history's refusal of these four tables is about: 1 the
+ * species tree, 2 the gene tree.  0 if the tables are sound, also where
+ * panheron_history refuses by 7. */
+uint32_t panheron_history_tree(
+    const uint16_t *species_parents, size_t species_parents_count,
+    const uint32_t *species_taxa, size_t species_taxa_count,
+    const uint16_t *gene_parents, size_t gene_parents_count,
+    const uint32_t *gene_taxa, size_t gene_taxa_count);
+
+/* The place of the same refusal: the lowest node at fault, a species node where
+ * panheron_history_tree gives 1 and a gene node where it gives 2.  0 for number
+ * 1, which is about no node, and if the tables are sound. */
+uint32_t panheron_history_place(
+    const uint16_t *species_parents, size_t species_parents_count,
+    const uint32_t *species_taxa, size_t species_taxa_count,
+    const uint16_t *gene_parents, size_t gene_parents_count,
+    const uint32_t *gene_taxa, size_t gene_taxa_count);
 
 #ifdef __cplusplus
 }

@@ -20,9 +20,8 @@
 #include <stdio.h>
 #include <stdlib.h>
 #include <string.h>
-#include <sys/mman.h>
-#include <unistd.h>
 
+#include "fence.h"
 #include "panheron.h"
 
 enum {
@@ -157,20 +156,6 @@ static void add_block(struct bytes *image, uint32_t number)
 }
 
 /* Asking */
-
-/* Memory that ends with a page that can't be read. */
-static uint8_t *fenced_end(size_t length)
-{
-    size_t page = (size_t)sysconf(_SC_PAGESIZE);
-    size_t room = (length + page - 1) / page * page;
-    uint8_t *start = mmap(NULL, room + page, PROT_READ | PROT_WRITE,
-                          MAP_PRIVATE | MAP_ANONYMOUS, -1, 0);
-    if (start == MAP_FAILED || mprotect(start + room, page, PROT_NONE) != 0) {
-        fputs("test_collector: no memory with a fence\n", stderr);
-        exit(2);
-    }
-    return start + room;
-}
 
 static struct answer ask(const struct question *q)
 {

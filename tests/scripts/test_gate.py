@@ -14,6 +14,8 @@ import sys
 import tempfile
 import unittest
 
+from stand_in import write
+
 HERE = os.path.dirname(os.path.abspath(__file__))
 ROOT = os.path.dirname(os.path.dirname(HERE))
 LOG = os.path.join(HERE, "gate.log")
@@ -49,13 +51,6 @@ esac
 """
 
 TWO_SECONDS = "import time\nwhile time.process_time() < 2: pass\n"
-
-
-def write(path, text):
-    os.makedirs(os.path.dirname(path), exist_ok=True)
-    with open(path, "w", encoding="utf-8") as file:
-        file.write(text)
-    os.chmod(path, 0o755)
 
 
 class Dearest(unittest.TestCase):

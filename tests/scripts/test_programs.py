@@ -18,6 +18,8 @@ import tempfile
 import time
 import unittest
 
+from stand_in import write
+
 ROOT = os.path.dirname(os.path.dirname(os.path.dirname(
     os.path.abspath(__file__))))
 COPIED = ("bin", "tools", "collector", "include")
@@ -64,13 +66,6 @@ LOADER = '#!/bin/sh\nshift 2\nexport LOADER=kit\nexec "$@"\n'
 EMULATOR = '#!/bin/sh\n[ "$1" != -L ] || shift 2\nexec "$@"\n'
 SHOWS_INPUT = "#!/bin/sh\nexec cat\n"
 SHOWS_WORDS = '#!/bin/sh\nprintf "%s\\n" "$@"\n'
-
-
-def write(path, text):
-    os.makedirs(os.path.dirname(path), exist_ok=True)
-    with open(path, "w", encoding="utf-8") as file:
-        file.write(text)
-    os.chmod(path, 0o755)
 
 
 class Case(unittest.TestCase):

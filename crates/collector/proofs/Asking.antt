@@ -19,7 +19,8 @@ use Rattle.families.proofs.Places.{place-fits}
 use Rattle.judging.specs.Judging.{imageRules, plain}
 use Rattle.opening.proofs.Opening.{opens-few}
 use Rattle.judging.proofs.Judging.{judged-load}
-use Rattle.collector.specs.Host.{fits, rackParents, rackTaxa, scratch, hostRuling, numberIn, treeIn, placeIn}
+use Rattle.rack.specs.Rack.{numberIn, treeIn, placeIn}
+use Rattle.collector.specs.Host.{fits, rackParents, rackTaxa, scratch, hostRuling}
 
 pub host-unfit : (image parents taxa : List ℕ) → fits parents taxa ≡ false → refused 1 1 0 ≡ hostRuling image parents taxa
 unfolding hostRuling pick

@@ -3,7 +3,7 @@
 --   rackParents b, rackTaxa b == the tables: "Tables come as bytes, low byte first"; 2 bytes a parent, 4 a taxon
 --   Halved parents taxa n <-> the lengths make two tables of n entries
 --   hostRuling ..     == what loading the image on the rack answers; 1 where the lengths do not fit
---   numberIn, treeIn, placeIn, duplicationsIn, lossesIn == the number that each call answers
+--   duplicationsIn, lossesIn == the number that each of these calls answers; numberIn, treeIn and placeIn are the rack's
 -- Assumes nothing.
 use Prim.Native.Nat.{ℕ, _*_, _/_, _%_}
 use mathlib.Core.Path.{_≡_}
@@ -36,19 +36,6 @@ scratch = record { gp = replicate 2047 0; gt = replicate 2047 0; places = replic
 -- the image against the rack's tables
 unfoldable pub hostRuling : List ℕ → List ℕ → List ℕ → Ruling Contents
 hostRuling image parents taxa = pick (fits parents taxa) ((load (rackParents parents) (rackTaxa taxa) image scratch) .answer) (refused 1 1 0)
-
--- "the refusal number of an image against the rack's two species tables (0 if none)", and its tree and place
-abbrev pub numberIn : {A : Type 0} → Ruling A → ℕ
-numberIn (accepted c) = 0
-numberIn (refused n t v) = n
-
-abbrev pub treeIn : {A : Type 0} → Ruling A → ℕ
-treeIn (accepted c) = 0
-treeIn (refused n t v) = t
-
-abbrev pub placeIn : {A : Type 0} → Ruling A → ℕ
-placeIn (accepted c) = 0
-placeIn (refused n t v) = v
 
 -- "the duplications and losses of the history stored in it (0 if refused)"
 abbrev pub duplicationsIn : Ruling Contents → ℕ

@@ -1,9 +1,10 @@
-// What the rack's C collector asks: the refusal of an image against the rack's two species tables, and what its history counts.
-// Every slice is a pointer and a length on the C side; include/panheron.h declares the calls.
+// What a rack's C program asks: the refusal of an image against the rack's two species tables, and what its history counts; and the
+// least history of a gene tree. Every slice is a pointer and a count of entries on the C side; include/panheron.h declares the calls.
 mod ask;
 mod judge;
 
-ghost use Rattle.collector.specs.Promises.{PanheronRefusalMeets, PanheronTreeMeets, PanheronPlaceMeets, PanheronDuplicationsMeets, PanheronLossesMeets};
+ghost use Rattle.trees.specs.Tables.{pair};
+ghost use Rattle.collector.specs.Promises.{PanheronRefusalMeets, PanheronTreeMeets, PanheronPlaceMeets, PanheronDuplicationsMeets, PanheronLossesMeets, PanheronHistoryMeets, PanheronHistoryTreeMeets, PanheronHistoryPlaceMeets};
 use loading::Loaded;
 use trees::Judged;
 
@@ -65,4 +66,55 @@ pub extern "C" fn panheron_losses(image: &[u8], parents: &[u8], taxa: &[u8]) -> 
         Loaded::Family(c) => c.losses,
         Loaded::Refused(_) => 0,
     }
+}
+
+// The least history: the number of the refusal, and then all three lent tables are as they were; or 0, with its places and labels and
+// its four counts.
+#[no_mangle]
+pub extern "C" fn panheron_history(
+    species_parents: &[u16],
+    species_taxa: &[u32],
+    gene_parents: &[u16],
+    gene_taxa: &[u32],
+    places: &mut [u16],
+    labels: &mut [u16],
+    counts: &mut [u64],
+) -> u32
+    ensures { λ r. ⌜ PanheronHistoryMeets (pair (now («species_parents» .entry)) (now («species_taxa» .entry)) (now («gene_parents» .entry)) (now («gene_taxa» .entry))) (now (places .entry)) (now (labels .entry)) (now (counts .entry)) r (now (places .exit)) (now (labels .exit)) (now (counts .exit)) ⌝ }
+{
+    rack::history(
+        species_parents,
+        species_taxa,
+        gene_parents,
+        gene_taxa,
+        places,
+        labels,
+        counts,
+    )
+}
+
+// The tree of the refusal of these four tables (1 species, 2 gene), or 0.
+#[no_mangle]
+pub extern "C" fn panheron_history_tree(
+    species_parents: &[u16],
+    species_taxa: &[u32],
+    gene_parents: &[u16],
+    gene_taxa: &[u32],
+) -> u32
+    ensures { λ r. ⌜ PanheronHistoryTreeMeets (pair (now («species_parents» .entry)) (now («species_taxa» .entry)) (now («gene_parents» .entry)) (now («gene_taxa» .entry))) r ⌝ }
+{
+    rack::history_tree(species_parents, species_taxa, gene_parents, gene_taxa)
+}
+
+// The place of the same refusal: a node of that tree, or 0.
+#[no_mangle]
+pub extern "C" fn panheron_history_place(
+    species_parents: &[u16],
+    species_taxa: &[u32],
+    gene_parents: &[u16],
+    gene_taxa: &[u32],
+) -> u32
+    ensures { λ r. ⌜ PanheronHistoryPlaceMeets (pair (now («species_parents» .entry)) (now («species_taxa» .entry)) (now («gene_parents» .entry)) (now («gene_taxa» .entry))) r ⌝ }
+{
+    rack::history_place(species_parents, species_taxa, gene_parents, gene_taxa)
 }

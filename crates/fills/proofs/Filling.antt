@@ -40,8 +40,9 @@ module _ {w : Pair} (S : Sound w) where
   not-own : (c g : ℕ) → c < length (w .gp) → up (w .gp) c ≡ g → c ≢ g
   not-own c g l e z = not-over (trees S .g .ground) {c = c} (rw (e, z) (here (rw z at l)))
 
-  pub fill-start : (p l : List ℕ) → length (w .gp) ≤ length p → length (w .gp) ≤ length l → ((g : ℕ) → g < length (w .gp) → getD l g 0 ≡ 3) → Filling w 0 none p l
-  fill-start p l a b f =
+  pub fill-start : (p l : List ℕ) → length (w .gp) ≤ length p → length (w .gp) ≤ length l → ((g : ℕ) → g < length (w .gp) → getD l g 0 ≡ 3)
+      → ((g : ℕ) → g < length (w .gp) → Leaf (w .gp) g → getD p g 0 ≡ home w g) → Filling w 0 none p l
+  fill-start p l a b f s =
       let few : length (w .gp) ≤ 2047 = S .genes .few in
       let no : (g : ℕ) → g < length (w .gp) → Done l g → ⊥ = (λ g h d. omega (arith, f g h)) in
       record {
@@ -50,6 +51,7 @@ module _ {w : Pair} (S : Sound w) where
         right = λ g h d. absurd (no g h d);
         leaf-done = λ g h e z. absurd (omega arith);
         leaf-fresh = λ g h e z. f g h;
+        leaf-place = λ g h e z. s g h e;
         stage = λ g h i. inr (inl (f g h));
         none-yet = λ g h e c m u r. no c m (r .0);
         half = λ g h e. absurd (omega (arith, f g h));
@@ -72,22 +74,22 @@ module _ {w : Pair} (S : Sound w) where
 
   -- ---- a leaf is finished
 
-  leaf-put : (k s : ℕ) (p p′ l l′ : List ℕ) → Filling w k none p l → k < length (w .gp) → Leaf (w .gp) k → s ≡ home w k
-      → Put p p′ k s → Put l l′ k 0 → Filling w (k + 1) k p′ l′
-  leaf-put k s p p′ l l′ F h e q P L =
+  leaf-put : (k : ℕ) (p l l′ : List ℕ) → Filling w k none p l → k < length (w .gp) → Leaf (w .gp) k → Put l l′ k 0 → Filling w (k + 1) k p l′
+  leaf-put k p l l′ F h e L =
       let fresh : getD l k 0 ≡ 3 = F .leaf-fresh k h e (omega arith) in
       let now : getD l′ k 0 ≡ 0 = L .here-now in
       let other : (c : ℕ) → Done l c → c ≢ k = (λ c d z. absurd (omega (arith, fresh, rw z at d))) in
       let away : (g : ℕ) → getD l′ g 0 ≢ 0 → g ≢ k = (λ g n z. n (rw z now)) in
       record {
-        places-room = rw (P .size) (F .places-room);
+        places-room = F .places-room;
         labels-room = rw (L .size) (F .labels-room);
         right = λ g m d. elim (ℕ-discrete g k) [
-          | yes z ↦ rw z (P .here-now ∙ q ∙ sym (place-leaf S k h e), L .here-now ∙ sym (label-leaf w k e))
-          | no z ↦ rw (P .there g z, L .there g z) (F .right g m (kept L g z d))
+          | yes z ↦ rw z (F .leaf-place k h e (omega arith) ∙ sym (place-leaf S k h e), L .here-now ∙ sym (label-leaf w k e))
+          | no z ↦ rw (L .there g z) (F .right g m (kept L g z d))
         ];
         leaf-done = λ g m f b. elim (ℕ-discrete g k) [ yes z ↦ rw (z, L .here-now) (omega arith) | no z ↦ keeps L g z (F .leaf-done g m f (omega arith)) ];
         leaf-fresh = λ g m f b. L .there g (omega arith) ∙ F .leaf-fresh g m f (omega arith);
+        leaf-place = λ g m f b. F .leaf-place g m f (omega arith);
         stage = λ g m i. let z : g ≢ k = (λ z. absurd (omega (arith, i, rw (← z) at e))) in rw (L .there g z) (F .stage g m i);
         none-yet = λ g m f c n u r. F .none-yet g m (sym (L .there g (away g (omega arith))) ∙ f) c n u (kept L c (r .1) (r .0), not-none c n);
         half = λ g m f.
@@ -100,7 +102,7 @@ module _ {w : Pair} (S : Sound w) where
               inside = H .inside;
               parent = H .parent;
               arrived = (keeps L c o (H .arrived .0), o);
-              its-place = P .there g z ∙ H .its-place;
+              its-place = H .its-place;
               alone = λ x n u r. H .alone x n u (kept L x (r .1) (r .0), not-none x n);
             };
         both = λ g m d c n u. elim (ℕ-discrete g k) [
@@ -110,9 +112,8 @@ module _ {w : Pair} (S : Sound w) where
         told = λ m. rw (L .here-now) (omega arith);
       }
 
-  pub fill-leaf : (k s : ℕ) (p l : List ℕ) → Filling w k none p l → k < length (w .gp) → Leaf (w .gp) k → s ≡ home w k → Filling w (k + 1) k (set p k s) (set l k 0)
-  fill-leaf k s p l F h e q =
-      leaf-put k s p (set p k s) l (set l k 0) F h e q (put-set p k s (omega (arith, F .places-room))) (put-set l k 0 (omega (arith, F .labels-room)))
+  pub fill-leaf : (k : ℕ) (p l : List ℕ) → Filling w k none p l → k < length (w .gp) → Leaf (w .gp) k → Filling w (k + 1) k p (set l k 0)
+  fill-leaf k p l F h e = leaf-put k p l (set l k 0) F h e (put-set l k 0 (omega (arith, F .labels-room)))
 
   -- ---- an inner node is passed over
 
@@ -125,6 +126,7 @@ module _ {w : Pair} (S : Sound w) where
         right = F .right;
         leaf-done = λ g m e b. let z = away g e in F .leaf-done g m e (omega arith);
         leaf-fresh = λ g m e b. F .leaf-fresh g m e (omega arith);
+        leaf-place = λ g m e b. F .leaf-place g m e (omega arith);
         stage = F .stage;
         none-yet = F .none-yet;
         half = F .half;
@@ -144,6 +146,7 @@ module _ {w : Pair} (S : Sound w) where
         right = F .right;
         leaf-done = F .leaf-done;
         leaf-fresh = F .leaf-fresh;
+        leaf-place = F .leaf-place;
         stage = F .stage;
         none-yet = λ g m f c n u r. F .none-yet g m f c n u (r .0, above c g m u);
         half = λ g m f.
@@ -176,6 +179,7 @@ module _ {w : Pair} (S : Sound w) where
         right = λ g m d. let z = not-u′ g d in rw (P .there g z, L .there g z) (F .right g m (kept L g z d));
         leaf-done = λ g m e c. let d = F .leaf-done g m e c in keeps L g (not-u g d) d;
         leaf-fresh = λ g m e c. let z : g ≢ u = (λ z. absurd (omega (arith, i, rw z at e))) in L .there g z ∙ F .leaf-fresh g m e c;
+        leaf-place = λ g m e c. let z : g ≢ u = (λ z. absurd (omega (arith, i, rw z at e))) in P .there g z ∙ F .leaf-place g m e c;
         stage = λ g m j. elim (ℕ-discrete g u) [ yes z ↦ inr (inr (rw z (L .here-now))) | no z ↦ rw (L .there g z) (F .stage g m j) ];
         none-yet = λ g m f c n a r.
             let z : g ≢ u = (λ z. absurd (omega (arith, L .here-now, rw z at f))) in
@@ -330,6 +334,7 @@ module _ {w : Pair} (S : Sound w) where
         ];
         leaf-done = λ g m f c. let d = F .leaf-done g m f c in keeps L g (not-u g d) d;
         leaf-fresh = λ g m f c. let z : g ≢ u = (λ z. absurd (omega (arith, X .inner, rw z at f))) in L .there g z ∙ F .leaf-fresh g m f c;
+        leaf-place = λ g m f c. let z : g ≢ u = (λ z. absurd (omega (arith, X .inner, rw z at f))) in P .there g z ∙ F .leaf-place g m f c;
         stage = λ g m j. elim (ℕ-discrete g u) [ yes z ↦ inl (rw (z, L .here-now) small) | no z ↦ rw (L .there g z) (F .stage g m j) ];
         none-yet = λ g m f c j a y.
             let z : g ≢ u = (λ z. absurd (omega (arith, small, L .here-now, rw z at f))) in

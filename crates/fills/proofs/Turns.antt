@@ -2,7 +2,7 @@
 use Prim.Native.Nat.{ℕ, _+_, _≤_, _<_}
 use native.Mathlib.Omega.{arith}
 use native.Mathlib.Decide.{ℕ-discrete}
-use mathlib.Core.Path.{_≡_, refl, sym, ap, _∙_}
+use mathlib.Core.Path.{_≡_, refl, _∙_}
 use mathlib.Core.Logic.{inl, inr, _≢_}
 use mathlib.Core.List.{List}
 use lib.ListN.{length, getD, set, length-set}
@@ -11,18 +11,10 @@ use Rattle.trees.specs.Lists.{one}
 use Rattle.trees.specs.Trees.{none, up, Leaf, Inner, depth}
 use Rattle.trees.specs.Tables.{Pair, home, taxon}
 use Rattle.trees.specs.Sound.{Sound}
-use Rattle.trees.specs.Spots.{speciesSpot}
-use Rattle.trees.specs.declared.SpeciesNode.{SpeciesNode}
-use Rattle.trees.specs.declared.SpeciesSpot.{SpeciesSpot}
-use Rattle.trees.specs.declared.SpeciesSpot.the-variants.{At, Nowhere}
-use Rattle.trees.proofs.Spots.{spot-lowest, nowhere-lowest}
 use Rattle.trees.proofs.Lines.{up-at}
-use Rattle.trees.proofs.Sound.{trees, home-is, home-one}
+use Rattle.trees.proofs.Sound.{trees}
 use Rattle.histories.specs.Histories.{everyNode}
 use Rattle.histories.proofs.Leaves.{depth-up}
-use Rattle.taxa.specs.Searches.{taxonAt}
-use Rattle.taxa.specs.Promises.{SpeciesOfMeets}
-use Rattle.taxa.proofs.Tests.{taxon-cases, tax-leaf}
 use Rattle.fills.specs.Filling.{Filling, Kept, kindOf, Ready, Finished, Rising, Risen, Marked, Taking, FilledFrom}
 use Rattle.fills.specs.Promises.{Fillable}
 use Rattle.fills.proofs.Filling.{fill-start, fill-leaf, fill-inner, fill-root, fill-half, fill-done, fill-end, second, second-in}
@@ -98,37 +90,12 @@ module _ {w : Pair} {k : ℕ} {p₀ l₀ : List ℕ} (R : Rising w k p₀ l₀) 
 
 -- ---- the leaves in turn
 
--- a taxon found is at the leaf's home
 module _ {w : Pair} (S : Sound w) (k : ℕ) (h : k < length (w .gp)) where
   pub inner-of : taxon (w .gt) k ≡ 0 → Inner (w .gp) k
   inner-of t = elim (S .genes .two k h) [ inl e ↦ absurd (S .genes .leaf-tax k h e t) | inr i ↦ i ]
 
   pub leaf-of : taxon (w .gt) k ≢ 0 → Leaf (w .gp) k
   leaf-of n = elim (S .genes .two k h) [ inl e ↦ e | inr i ↦ absurd (n (S .genes .inner-tax k h i)) ]
-
-  pub home-found : taxon (w .gt) k ≢ 0 → taxonAt (w .st) (taxon (w .gt) k) ≡ home w k
-  home-found n =
-      let e = leaf-of n in
-      let i = home-is S k h e in
-      let ev : length (w .st) ≡ length (w .sp) = S .species .tree .even in
-      elim (taxon-cases (w .st) (taxon (w .gt) k)) [
-        | inl r ↦ home-one S k (taxonAt (w .st) (taxon (w .gt) k)) h e (omega (arith, r .0)) (tax-leaf (S .species .tree) (taxonAt (w .st) (taxon (w .gt) k)) (omega (arith, r .0)) (λ z. n (sym (r .1) ∙ z))) (r .1)
-        | inr r ↦ absurd (r .1 (home w k) (omega (arith, i .0)) (i .2))
-      ]
-
-  -- what the look-up of its taxon answers: its home
-  pub home-spot : taxon (w .gt) k ≢ 0 → (r : SpeciesSpot) → SpeciesOfMeets (w .st) (taxon (w .gt) k) r → (s : SpeciesNode) → r ≡ At s → (s .0 ≡ home w k) × (s .0 < 2047)
-  unfolding taxonAt
-  home-spot n r M s e =
-      let a : s .0 ≡ taxonAt (w .st) (taxon (w .gt) k) = spot-lowest _ _ (s .0) (sym (ap speciesSpot e) ∙ M) in
-      let b : s .0 ≡ home w k = a ∙ home-found n in
-      (b, omega (arith, b, (home-is S k h (leaf-of n)) .0, S .species .tree .few))
-
-  pub home-somewhere : taxon (w .gt) k ≢ 0 → (r : SpeciesSpot) → SpeciesOfMeets (w .st) (taxon (w .gt) k) r → r ≡ Nowhere → ⊥
-  unfolding taxonAt
-  home-somewhere n r M e =
-      let a : taxonAt (w .st) (taxon (w .gt) k) ≡ length (w .st) = nowhere-lowest _ _ (sym (ap speciesSpot e) ∙ M) in
-      omega (arith, a, home-found n, (home-is S k h (leaf-of n)) .0, S .species .tree .even)
 
 module _ {w : Pair} {k : ℕ} {p l : List ℕ} (X : Taking w k p l) where
   pub take-inner : taxon (w .gt) k ≡ 0 → Risen w k p p l l
@@ -139,22 +106,26 @@ module _ {w : Pair} {k : ℕ} {p l : List ℕ} (X : Taking w k p l) where
         labels-kept = kept-self (length (w .gp)) l;
       }
 
-  module _ (n : taxon (w .gt) k ≢ 0) (s : ℕ) (q : s ≡ home w k) where
-    pub take-leaf : Rising w k (set p k s) (set l k 0)
-    take-leaf =
-        record {
-          sound = X .sound;
-          inside = X .inside;
-          filling = fill-leaf (X .sound) k s p l (X .filling) (X .inside) (leaf-of (X .sound) k (X .inside) n) q;
-        }
+  pub take-leaf : taxon (w .gt) k ≢ 0 → Rising w k p (set l k 0)
+  take-leaf n =
+      record {
+        sound = X .sound;
+        inside = X .inside;
+        filling = fill-leaf (X .sound) k p l (X .filling) (X .inside) (leaf-of (X .sound) k (X .inside) n);
+      }
 
-    pub take-risen : (p′ l′ : List ℕ) → Risen w k (set p k s) p′ (set l k 0) l′ → Risen w k p p′ l l′
-    take-risen p′ l′ R =
-        record {
-          filling = R .filling;
-          places-kept = kept-join (kept-set k s (X .inside) (kept-self (length (w .gp)) p)) (R .places-kept);
-          labels-kept = kept-join (kept-set k 0 (X .inside) (kept-self (length (w .gp)) l)) (R .labels-kept);
-        }
+  pub take-risen : (p′ l′ : List ℕ) → Risen w k p p′ (set l k 0) l′ → Risen w k p p′ l l′
+  take-risen p′ l′ R =
+      record {
+        filling = R .filling;
+        places-kept = R .places-kept;
+        labels-kept = kept-join (kept-set k 0 (X .inside) (kept-self (length (w .gp)) l)) (R .labels-kept);
+      }
+
+-- every leaf has its place
+pub record Homed (w : Pair) (p p′ : List ℕ) : Type 0 where
+  pub kept : Kept (length (w .gp)) p p′
+  pub at-home : (g : ℕ) → g < length (w .gp) → Leaf (w .gp) g → getD p′ g 0 ≡ home w g
 
 -- all leaves below k are done
 pub record Filling-to (w : Pair) (k : ℕ) (p₀ p l₀ l : List ℕ) : Type 0 where
@@ -166,19 +137,23 @@ pub to-next : {w : Pair} {p₀ l₀ : List ℕ} (k : ℕ) (p p′ l l′ : List 
 to-next k p p′ l l′ F R =
     record { filling = R .filling; places-kept = kept-join (F .places-kept) (R .places-kept); labels-kept = kept-join (F .labels-kept) (R .labels-kept) }
 
--- from the marked labels l₁ on
-module _ {w : Pair} {p₀ l₀ l₁ : List ℕ} (X : Fillable w p₀ l₀) (M : Marked (length (w .gp)) l₀ l₁) where
-  pub to-start : Filling-to w 0 p₀ p₀ l₁ l₁
+-- from the settled places p₁ and the marked labels l₁ on
+module _ {w : Pair} {p₀ p₁ l₀ l₁ : List ℕ} (X : Fillable w p₀ l₀) (H : Homed w p₀ p₁) (M : Marked (length (w .gp)) l₀ l₁) where
+  pub to-start : Filling-to w 0 p₁ p₁ l₁ l₁
   to-start =
       record {
-        filling = fill-start (X .sound) p₀ l₁ (X .places-room) (omega (arith, X .labels-room, M .kept .size)) (M .fresh);
-        places-kept = kept-self (length (w .gp)) p₀;
+        filling = fill-start (X .sound) p₁ l₁ (omega (arith, X .places-room, H .kept .size)) (omega (arith, X .labels-room, M .kept .size)) (M .fresh) (H .at-home);
+        places-kept = kept-self (length (w .gp)) p₁;
         labels-kept = kept-self (length (w .gp)) l₁;
       }
 
-  pub to-end : (k : ℕ) (p l : List ℕ) → length (w .gp) ≤ k → Filling-to w k p₀ p l₁ l → FilledFrom w p₀ p l₀ l
+  pub to-end : (k : ℕ) (p l : List ℕ) → length (w .gp) ≤ k → Filling-to w k p₁ p l₁ l → FilledFrom w p₀ p l₀ l
   to-end k p l b F =
-      record { filled = fill-end (X .sound) k p l b (F .filling); places-kept = F .places-kept; labels-kept = kept-join (M .kept) (F .labels-kept) }
+      record {
+        filled = fill-end (X .sound) k p l b (F .filling);
+        places-kept = kept-join (H .kept) (F .places-kept);
+        labels-kept = kept-join (M .kept) (F .labels-kept);
+      }
 
 -- ---- marking
 

@@ -2,7 +2,8 @@
 -- arrives. While it runs, a label of 3 says that no child has arrived at a node yet, and 4 that one has, whose place stands there.
 --   Done l g          <-> g is finished: its label is a label
 --   Arrived l v c     <-> c is finished and has told its parent; v is the node that is still to tell
---   Filling w k v p l <-> the leaves below k are finished, and so is every node whose children all are; all that is finished is right
+--   Filling w k v p l <-> the leaves below k are finished, and so is every node whose children all are; all that is finished is right;
+--                         the leaves from k on have their places
 --   kindOf m a b      == the label of an inner node at m whose children sit at a and b
 --   Kept q old new    <-> the entries behind the first q are as they were
 --   Ready, Finished; Rising, Risen; Marked; Taking; FilledFrom
@@ -19,7 +20,7 @@ use lib.Dec.{eqb}
 use Rattle.trees.specs.Lists.{pick}
 use Rattle.trees.specs.Trees.{none, up, Leaf, Inner, Meet}
 use Rattle.trees.specs.Sound.{Treelike, Sound}
-use Rattle.trees.specs.Tables.{Pair}
+use Rattle.trees.specs.Tables.{Pair, home}
 use Rattle.histories.specs.Places.{place}
 use Rattle.histories.specs.Histories.{label}
 
@@ -47,6 +48,7 @@ pub record Filling (w : Pair) (k v : ℕ) (p l : List ℕ) : Type 0 where
   pub right : (g : ℕ) → g < length (w .gp) → Done l g → Told w p l g
   pub leaf-done : (g : ℕ) → g < length (w .gp) → Leaf (w .gp) g → g < k → Done l g
   pub leaf-fresh : (g : ℕ) → g < length (w .gp) → Leaf (w .gp) g → k ≤ g → getD l g 0 ≡ 3
+  pub leaf-place : (g : ℕ) → g < length (w .gp) → Leaf (w .gp) g → k ≤ g → getD p g 0 ≡ home w g
   pub stage : (g : ℕ) → g < length (w .gp) → Inner (w .gp) g → Done l g ⊎ ((getD l g 0 ≡ 3) ⊎ (getD l g 0 ≡ 4))
   pub none-yet : (g : ℕ) → g < length (w .gp) → getD l g 0 ≡ 3 → (c : ℕ) → c < length (w .gp) → up (w .gp) c ≡ g → Arrived l v c → ⊥
   pub half : (g : ℕ) → g < length (w .gp) → getD l g 0 ≡ 4 → Half w v p l g

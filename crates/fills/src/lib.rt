@@ -1,5 +1,7 @@
 // The fill of the least history: up from each gene leaf in turn, in the two lent tables alone. A node is finished when its second child
-// arrives; until then its label says how many have (3: none, 4: one).
+// arrives; until then its label says how many have (3: none, 4: one). The leaves' places come first.
+mod settling;
+
 ghost use mathlib.Core.Path.{_≡_};
 ghost use Prim.Native.Nat.{_≤_};
 ghost use lib.ListN.{length};
@@ -8,7 +10,6 @@ ghost use Rattle.fills.specs.Filling.{kindOf, Ready, Finished, Rising, R
 ghost use Rattle.fills.specs.Promises.{Fillable, FillMeets};
 use trees::GeneNode;
 use trees::SpeciesNode;
-use trees::SpeciesSpot;
 
 // The label of an inner node at m whose children sit at a and b.
 fn kind_of(m: SpeciesNode, a: SpeciesNode, b: SpeciesNode) -> u16
@@ -87,7 +88,7 @@ fn mark(labels: &mut [u16], q: usize)
     }
 }
 
-// A gene node in turn: a leaf gets its place and label, and goes up; an inner node waits for its children.
+// A gene node in turn: a leaf, which has its place, gets its label and goes up; an inner node waits for its children.
 fn take(
     species_parents: &[u16],
     species_taxa: &[u32],
@@ -101,15 +102,9 @@ fn take(
     ensures { λ r. ⌜ Risen (pair (now («species_parents» .entry)) (now («species_taxa» .entry)) (now («gene_parents» .entry)) (now («gene_taxa» .entry))) (node .0) (now (places .entry)) (now (places .exit)) (now (labels .entry)) (now (labels .exit)) ⌝ }
 {
     let k = node.0;
-    let taxon = gene_taxa[k];
-    if taxon == 0 {
+    if gene_taxa[k] == 0 {
         return;
     }
-    let found = taxa::species_of(species_taxa, taxon);
-    let SpeciesSpot::At(home) = found else {
-        return;
-    };
-    places[k] = home.0 as u16;
     labels[k] = 0;
     go_up(
         species_parents,
@@ -135,6 +130,7 @@ pub fn fill(
     ensures { λ r. ⌜ FillMeets (pair (now («species_parents» .entry)) (now («species_taxa» .entry)) (now («gene_parents» .entry)) (now («gene_taxa» .entry))) (now (places .entry)) (now (labels .entry)) (now (places .exit)) (now (labels .exit)) ⌝ }
 {
     let q = gene_parents.len();
+    settling::settle(species_taxa, gene_taxa, places);
     mark(labels, q);
     let mut k: usize = 0;
     while k < q {

@@ -59,7 +59,7 @@ pub fn least_history(
         places,
         labels,
     );
-    let t = counts::count_history(
+    let t = climbs::count_climbs(
         species_parents,
         species_taxa,
         gene_parents,

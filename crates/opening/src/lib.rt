@@ -84,7 +84,7 @@ fn judge_content(species_parents: &[u16], species_taxa: &[u32], image: &[u8]) ->
 pub fn open_image(species_parents: &[u16], species_taxa: &[u32], image: &[u8]) -> Opened
     ensures { λ r. ⌜ OpenImageMeets (now («species_parents» .entry)) (now («species_taxa» .entry)) (now (image .entry)) r ⌝ }
 {
-    let rack = judges::judge_species(species_parents, species_taxa);
+    let rack = judges::judge_rack(species_parents, species_taxa);
     if let Judged::Refused(r) = rack {
         return Opened::Refused(r);
     }

@@ -13,7 +13,7 @@ ghost use Rattle.trees.specs.Rulings.{verdict};
 ghost use Rattle.trees.specs.Rules.{ordered, sized, shapeRules};
 ghost use Rattle.trees.specs.Answers.{judgedOf};
 ghost use Rattle.shapes.specs.Counts.{pairedCount, markedCount, wantedCount, ChildCounts, Shaped, Zeros};
-ghost use Rattle.shapes.specs.Promises.{JudgeShapeMeets};
+ghost use Rattle.shapes.specs.Promises.{FirstUnorderedMeets, JudgeShapeMeets};
 use trees::Judged;
 use trees::refuse;
 
@@ -47,9 +47,9 @@ fn ordered_at(parents: &[u16], i: usize) -> bool
 }
 
 // Rule 2: the lowest node whose parent breaks the order, or the number of nodes.
-fn first_unordered(parents: &[u16]) -> usize
+pub fn first_unordered(parents: &[u16]) -> usize
     requires { ⌜ (1 ≤ length (now parents)) × (length (now parents) ≤ 2047) ⌝ }
-    ensures { λ r. ⌜ r ≡ lowest (ordered (now (parents .entry))) (length (now (parents .entry))) ⌝ }
+    ensures { λ r. ⌜ FirstUnorderedMeets (now (parents .entry)) r ⌝ }
 {
     let n = parents.len();
     if all_ordered(parents) {

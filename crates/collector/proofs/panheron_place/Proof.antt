@@ -4,7 +4,8 @@ use mathlib.Core.Path.{sym, ap, _∙_}
 use Rattle.trees.specs.Rulings.{Ruling}
 use Rattle.trees.specs.Answers.{judgedOf}
 use Rattle.families.specs.Loading.{Contents}
-use Rattle.collector.specs.Host.{hostRuling, placeIn}
+use Rattle.rack.specs.Rack.{placeIn}
+use Rattle.collector.specs.Host.{hostRuling}
 use Rattle.collector.proofs.Asking.{place-plain, place-small}
 use borrow.Author.Needs.{needs}
 use Rattle.collector.proofs.panheron_place.Statement.{statement}

@@ -3,7 +3,8 @@ use mathlib.Core.Path.{sym, ap, _∙_}
 use Rattle.trees.specs.Rulings.{Ruling}
 use Rattle.trees.specs.Answers.{judgedOf}
 use Rattle.families.specs.Loading.{Contents}
-use Rattle.collector.specs.Host.{hostRuling, numberIn}
+use Rattle.rack.specs.Rack.{numberIn}
+use Rattle.collector.specs.Host.{hostRuling}
 use Rattle.collector.proofs.Asking.{number-plain}
 use borrow.Author.Needs.{needs}
 use Rattle.collector.proofs.panheron_refusal.Statement.{statement}

@@ -3,7 +3,8 @@ use Prim.Native.Nat.{_-_, _≤_}
 use mathlib.Core.Path.{_≡_, refl, _∙_}
 use lib.ListN.{length}
 use Rattle.trees.specs.Tables.{pair}
-use Rattle.fills.proofs.Turns.{Filling-to, to-start, to-next, to-end}
+use Rattle.fills.proofs.Turns.{Homed, Filling-to, to-start, to-next, to-end}
+use Rattle.fills.proofs.Seats.{settleable, settled-home}
 use Rattle.fills.proofs.Written.{filled-meets}
 use borrow.Author.Needs.{needs}
 use Rattle.fills.proofs.fill.Statement.{statement}
@@ -16,23 +17,33 @@ abbrev μ-loop : tie.MeasureT-loop
 μ-loop species-parents species-taxa gene-parents gene-taxa places₀ labels₀ q k₀ places labels k = q - k
 
 -- the places gone back to
-abbrev start-mark : tie.After-mark-arg Inv-loop μ-loop → tie.Start Inv-loop μ-loop
-start-mark c = c .before .before .before .before .before .before .before
+abbrev start : tie.After-settle-arg Inv-loop μ-loop → tie.Start Inv-loop μ-loop
+start c = c .before .before .before .before .before .before .before
 
-abbrev start : tie.At-loop Inv-loop μ-loop → tie.Start Inv-loop μ-loop
-start c = start-mark (c .before .before .before .before)
+abbrev settled : tie.After-mark-arg Inv-loop μ-loop → tie.After-settle Inv-loop μ-loop
+settled c = c .before .before .before
 
 abbrev marked : tie.At-loop Inv-loop μ-loop → tie.After-mark Inv-loop μ-loop
 marked c = c .before .before .before
 
+abbrev begun : tie.After-mark Inv-loop μ-loop → tie.Start Inv-loop μ-loop
+begun c = start (settled (c .before) .before)
+
+-- every leaf has its place
+homed : (c : tie.After-mark Inv-loop μ-loop) → let s = begun c in Homed (pair (s .args .species-parents .now) (s .args .species-taxa .now) (s .args .gene-parents .now) (s .args .gene-taxa .now)) (s .args .places .now) (settled (c .before) .settle .last .1 .1 .0)
+homed c = settled-home (begun c .pre) _ (settled (c .before) .settle .ensures)
+
+settle-requires : tie.Need-settle-requires Inv-loop μ-loop
+settle-requires c κs = settleable (start c .pre)
+
 mark-requires : tie.Need-mark-requires Inv-loop μ-loop
-mark-requires c κs = start-mark c .pre .labels-room
+mark-requires c κs = start (settled c .before) .pre .labels-room
 
 loop-holds : tie.Need-loop-holds Inv-loop μ-loop
-loop-holds c = (refl, search needs, to-start (start-mark (c .before .before .before) .pre) (c .before .before .mark .ensures))
+loop-holds c = (refl, search needs, let m = c .before .before in to-start (begun m .pre) (homed m) (m .mark .ensures))
 
 take-requires : tie.Need-take-requires Inv-loop μ-loop
-take-requires c κs = let k = c .before .before .before in record { sound = start k .pre .sound; inside = search needs; filling = k .loop .inv .2 .filling }
+take-requires c κs = let k = c .before .before .before in record { sound = begun (marked k) .pre .sound; inside = search needs; filling = k .loop .inv .2 .filling }
 
 add-k : tie.Need-add-k Inv-loop μ-loop
 add-k c = search needs
@@ -44,13 +55,13 @@ loop-again : tie.Need-loop-again Inv-loop μ-loop
 loop-again c = let t = c .before .before .before .before in let k = t .before .before .before .before in (refl, search needs, to-next _ _ _ _ _ (k .loop .inv .2) (t .take .ensures))
 
 same-length : tie.Need-same-length Inv-loop μ-loop
-same-length c = c .before .loop .inv .2 .places-kept .size
+same-length c = c .before .loop .inv .2 .places-kept .size ∙ homed (marked (c .before)) .kept .size
 
 same-length-2 : tie.Need-same-length-2 Inv-loop μ-loop
 same-length-2 c = c .before .loop .inv .2 .labels-kept .size ∙ marked (c .before) .mark .ensures .kept .size
 
 returns : tie.Need-returns Inv-loop μ-loop
-returns c = filled-meets (to-end (start (c .before) .pre) (marked (c .before) .mark .ensures) _ _ _ (search needs) (c .before .loop .inv .2))
+returns c = let m = marked (c .before) in filled-meets (to-end (begun m .pre) (homed m) (m .mark .ensures) _ _ _ (search needs) (c .before .loop .inv .2))
 
 pub fill-spec : {M : Type 1} → statement M
 fill-spec =
@@ -58,6 +69,7 @@ fill-spec =
     (tie.spec
     Inv-loop
     μ-loop
+    settle-requires
     mark-requires
     loop-holds
     take-requires

@@ -64,8 +64,8 @@ returns-3 c = let e = c .before .before in let t = e .before in let s = start (t
 fill-requires : tie.Need-fill-requires
 fill-requires c κs = let e = c .before .before in let t = e .before .before in record { sound = sound-here t; places-room = e .before .if1 .left; labels-room = e .if2 .left }
 
-count-history-requires : tie.Need-count-history-requires
-count-history-requires c κs = let f = c .before .before .before .before .before .before in filled-story (sound-here (told f)) (f .fill .ensures) (f .before .before .before .before .if1 .left) (f .before .before .before .if2 .left)
+count-climbs-requires : tie.Need-count-climbs-requires
+count-climbs-requires c κs = let f = c .before .before .before .before .before .before in filled-story (sound-here (told f)) (f .fill .ensures) (f .before .before .before .before .if1 .left) (f .before .before .before .if2 .left)
 
 cost-requires : tie.Need-cost-requires
 cost-requires c κs = search needs
@@ -77,7 +77,7 @@ same-length-2 : tie.Need-same-length-2
 same-length-2 c = let f = filled c in filled-labels (sound-here (told f)) (f .fill .ensures) (f .before .before .before .if2 .left)
 
 returns-4 : tie.Need-returns-4
-returns-4 c = let f = filled c in let t = told f in let s = start (t .before .before) in let e = f .before .before .before in least-done (tables s) _ _ (s .args .dw) (s .args .lw) (fine-here t) _ _ _ (f .fill .ensures) (e .before .if1 .left) (e .if2 .left) (counts-from (tables s) _ _ (talliedOf (c .before .count-history .result)) _ (c .before .count-history .ensures ∙ filled-tally (sound-here t) (f .fill .ensures)) (c .cost .ensures))
+returns-4 c = let f = filled c in let t = told f in let s = start (t .before .before) in let e = f .before .before .before in least-done (tables s) _ _ (s .args .dw) (s .args .lw) (fine-here t) _ _ _ (f .fill .ensures) (e .before .if1 .left) (e .if2 .left) (counts-from (tables s) _ _ (talliedOf (c .before .count-climbs .result)) _ (c .before .count-climbs .ensures ∙ filled-tally (sound-here t) (f .fill .ensures)) (c .cost .ensures))
 
 pub least-history-spec : {M : Type 1} → statement M
 least-history-spec =
@@ -92,7 +92,7 @@ least-history-spec =
     refuse-requires-2
     returns-3
     fill-requires
-    count-history-requires
+    count-climbs-requires
     cost-requires
     same-length
     same-length-2

@@ -14,11 +14,11 @@ use Rattle.opening.proofs.open_image.Statement.{statement}
 use Rattle.opening.proofs.open_image.Tie as tie
 
 -- what is known where the rack is sound, and where the blocks are right
-abbrev start : tie.After-judge-species → tie.Start
+abbrev start : tie.After-judge-rack → tie.Start
 start c = c .before .before .before .before
 
 rack-fine : (c : tie.After-enum-told) → verdict (speciesRules (start (c .before .before) .args .species-parents .now) (start (c .before .before) .args .species-taxa .now)) ≡ accepted fine
-rack-fine c = sym (c .before .before .judge-species .ensures) ∙ ap judgedOf (c .enum-told .given .1)
+rack-fine c = sym (c .before .before .judge-rack .ensures) ∙ ap judgedOf (c .enum-told .given .1)
 
 abbrev rack : tie.After-judge-blocks → tie.After-enum-told
 rack c = c .before
@@ -26,14 +26,14 @@ rack c = c .before
 blocks-fine : (c : tie.After-enum-told2) → (n : ℕ) × (ruling (blockRules limit (start (rack (c .before .before) .before .before) .args .image .now)) (count (start (rack (c .before .before) .before .before) .args .image .now)) ≡ accepted n)
 blocks-fine c = (_, sym (c .before .before .judge-blocks .ensures) ∙ ap framedOf (c .enum-told2 .given .1))
 
-judge-species-requires : tie.Need-judge-species-requires
-judge-species-requires c κs = search needs
+judge-rack-requires : tie.Need-judge-rack-requires
+judge-rack-requires c κs = search needs
 
 enum-known-rack : tie.Need-enum-known-rack
 enum-known-rack c = search needs
 
 returns : tie.Need-returns
-returns c = let j = c .before .before .before in sym (open-rack _ _ _ _ _ _ _ (sym (j .judge-species .ensures) ∙ ap judgedOf (c .before .rack .given .1)))
+returns c = let j = c .before .before .before in sym (open-rack _ _ _ _ _ _ _ (sym (j .judge-rack .ensures) ∙ ap judgedOf (c .before .rack .given .1)))
 
 enum-told : tie.Need-enum-told
 enum-told c = search needs
@@ -60,7 +60,7 @@ pub open-image-spec : {M : Type 1} → statement M
 open-image-spec =
     tie.close
     (tie.spec
-    judge-species-requires
+    judge-rack-requires
     enum-known-rack
     returns
     enum-told

@@ -17,7 +17,7 @@ all-shaped-requires : tie.Need-all-shaped-requires
 all-shaped-requires c κs = let s = c .before .before .before in let z = sized-is _ _ (s .pre .0) in (omega (arith, s .pre .2 .room, z .even), omega (arith, z .few, z .even))
 
 returns : tie.Need-returns
-returns c = let s = start (c .before) in sym (shape-wanted _ _ _ (s .pre .0) (s .pre .1) _ (s .pre .2) (c .before .all-shaped .ensures (true-T (c .if1 .taken))))
+returns c = let s = start (c .before) in let z = sized-is _ _ (s .pre .0) in sym (shape-wanted _ _ _ (s .pre .0) (s .pre .1) (λ k h. sym (s .pre .2 .count k h) ∙ c .before .all-shaped .ensures (true-T (c .if1 .taken)) k (omega (arith, z .even))))
 
 first-unpaired-requires : tie.Need-first-unpaired-requires
 first-unpaired-requires c κs = search needs
