@@ -6,9 +6,11 @@
  *                                  bytes of stack that it wrote to
  *
  * SHAPE is balanced, random or caterpillar, for both trees; P and Q are their
- * numbers of nodes.  A call is given the two trees, or the image that holds
- * them with the least history.  The same words always make the same trees.
- * Exit status 1: a call refused them.
+ * numbers of nodes.  Their nodes are numbered with parents first; with -shuffled
+ * behind the shape the same trees and their history are numbered at random.  A
+ * call is given the two trees, or the image that holds them with the least
+ * history.  The same words always make the same trees.  Exit status 1: a call
+ * refused them.
  */
 #include <stdbool.h>
 #include <stdint.h>
@@ -23,6 +25,7 @@
 
 enum {
     MOST_NODES = 2047,
+    NO_PARENT = 65535,
     MOST_TAXON = 3000000,
     BLOCK_BYTES = 512,
     CHECKED_BYTES = 508,
@@ -91,26 +94,42 @@ static void make_random(struct tree *t)
     }
 }
 
-static void make_shape(struct tree *t, const char *shape, size_t count)
+/* The shapes, and what stands behind one whose nodes are shuffled. */
+static const struct {
+    const char *name;
+    void (*make)(struct tree *);
+} shapes[] = {{"balanced", make_balanced},
+              {"random", make_random},
+              {"caterpillar", make_caterpillar}};
+static const char shuffled[] = "-shuffled";
+
+/* Makes both trees; gives whether their nodes are to be shuffled. */
+static bool make_shapes(const char *words, size_t p, size_t q)
 {
-    t->count = count;
-    t->parents[0] = 65535;
-    if (strcmp(shape, "balanced") == 0)
-        make_balanced(t);
-    else if (strcmp(shape, "random") == 0)
-        make_random(t);
-    else if (strcmp(shape, "caterpillar") == 0)
-        make_caterpillar(t);
-    else
-        stop("the shape is balanced, random or caterpillar");
+    species.count = p;
+    genes.count = q;
+    species.parents[0] = genes.parents[0] = NO_PARENT;
+    for (size_t i = 0; i < sizeof shapes / sizeof shapes[0]; i++) {
+        size_t length = strlen(shapes[i].name);
+        const char *behind = words + length;
+        if (strncmp(words, shapes[i].name, length) != 0
+            || (*behind != '\0' && strcmp(behind, shuffled) != 0))
+            continue;
+        shapes[i].make(&species);
+        shapes[i].make(&genes);
+        return *behind != '\0';
+    }
+    stop("the shape is balanced, random or caterpillar, or one with -shuffled");
+    return false;
 }
 
 static void mark_leaves(const struct tree *t, bool *leaf)
 {
     for (size_t i = 0; i < t->count; i++)
         leaf[i] = true;
-    for (size_t i = 1; i < t->count; i++)
-        leaf[t->parents[i]] = false;
+    for (size_t i = 0; i < t->count; i++)
+        if (t->parents[i] != NO_PARENT)
+            leaf[t->parents[i]] = false;
 }
 
 /* Different numbers of up to seven digits, as taxonomies give them. */
@@ -149,39 +168,88 @@ static uint16_t leaf_of(uint32_t taxon)
     return i;
 }
 
+static size_t depth_of(uint16_t node)
+{
+    size_t depth = 0;
+    for (; species.parents[node] != NO_PARENT; node = species.parents[node])
+        depth++;
+    return depth;
+}
+
 static uint16_t common_ancestor(uint16_t a, uint16_t b)
 {
+    size_t above_a = depth_of(a), above_b = depth_of(b);
+    for (; above_a > above_b; above_a--)
+        a = species.parents[a];
+    for (; above_b > above_a; above_b--)
+        b = species.parents[b];
     while (a != b) {
-        if (a > b)
-            a = species.parents[a];
-        else
-            b = species.parents[b];
+        a = species.parents[a];
+        b = species.parents[b];
     }
     return a;
 }
 
+/* From each leaf up: the first child that comes to a node leaves its place there,
+ * and with the second the node itself is placed. */
 static void make_history(void)
 {
-    bool placed[MOST_NODES] = {false};
+    bool visited[MOST_NODES] = {false};
+    memset(labels, 0, sizeof labels);
     for (size_t i = 0; i < genes.count; i++) {
-        labels[i] = 0;
-        if (genes.taxa[i] != 0)
-            places[i] = leaf_of(genes.taxa[i]);
+        uint16_t at = (uint16_t)i, above = genes.parents[i];
+        if (genes.taxa[i] == 0)
+            continue;
+        places[i] = leaf_of(genes.taxa[i]);
+        for (; above != NO_PARENT && visited[above];
+             at = above, above = genes.parents[at]) {
+            uint16_t one = places[above];
+            places[above] = common_ancestor(one, places[at]);
+            labels[above] = places[above] == one || places[above] == places[at]
+                                ? 2 : 1;
+        }
+        if (above != NO_PARENT) {
+            visited[above] = true;
+            places[above] = places[at];
+        }
     }
-    for (size_t i = genes.count - 1; i > 0; i--) {
-        uint16_t above = genes.parents[i];
-        if (placed[above])
-            places[above] = common_ancestor(places[above], places[i]);
-        else
-            places[above] = places[i];
-        placed[above] = true;
+}
+
+/* Numbering anew */
+
+static void draw_numbers(uint16_t *numbers, size_t count)
+{
+    for (size_t i = 0; i < count; i++) {
+        size_t at = random_below((uint32_t)i + 1);
+        numbers[i] = numbers[at];
+        numbers[at] = (uint16_t)i;
     }
-    for (size_t i = 1; i < genes.count; i++) {
-        uint16_t above = genes.parents[i];
-        if (places[i] == places[above])
-            labels[above] = 2;
-        else if (labels[above] == 0)
-            labels[above] = 1;
+}
+
+static void renumber(struct tree *t, const uint16_t *numbers)
+{
+    static struct tree was;
+    was = *t;
+    for (size_t i = 0; i < t->count; i++) {
+        uint16_t parent = was.parents[i];
+        t->parents[numbers[i]] = parent == NO_PARENT ? parent : numbers[parent];
+        t->taxa[numbers[i]] = was.taxa[i];
+    }
+}
+
+static void shuffle(void)
+{
+    static uint16_t of_species[MOST_NODES], of_genes[MOST_NODES];
+    static uint16_t old_places[MOST_NODES], old_labels[MOST_NODES];
+    draw_numbers(of_species, species.count);
+    draw_numbers(of_genes, genes.count);
+    renumber(&species, of_species);
+    renumber(&genes, of_genes);
+    memcpy(old_places, places, sizeof places);
+    memcpy(old_labels, labels, sizeof labels);
+    for (size_t i = 0; i < genes.count; i++) {
+        places[of_genes[i]] = of_species[old_places[i]];
+        labels[of_genes[i]] = old_labels[i];
     }
 }
 
@@ -226,7 +294,6 @@ static void seal(uint8_t *block, size_t number)
 static void make_image(void)
 {
     size_t words = 0;
-    make_history();
     add_word(&words, 1);
     add_word(&words, (uint32_t)species.count);
     add_word(&words, (uint32_t)genes.count);
@@ -263,10 +330,13 @@ static size_t count_in(const char *text)
 
 static void make_inputs(char **words)
 {
-    make_shape(&species, words[0], count_in(words[1]));
-    make_shape(&genes, words[0], count_in(words[2]));
+    bool in_any_order = make_shapes(words[0], count_in(words[1]),
+                                    count_in(words[2]));
     name_species(&species);
     name_genes();
+    make_history();
+    if (in_any_order)
+        shuffle();
     make_rack();
     make_image();
 }

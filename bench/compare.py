@@ -158,7 +158,7 @@ def image_line(case):
 # 7 and 12 are about lent memory, and these calls are lent none.
 IMAGES = Subject(
     __doc__, image_case, image_slices, image_line,
-    [0] + [number for number in range(1, 19) if number not in (7, 12)],
+    [number for number in (*range(19), 38) if number not in (7, 12)],
     ["answers.c", "fast.c"])
 
 

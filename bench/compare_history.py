@@ -150,7 +150,8 @@ def line_of(case):
                        for table in lent])
 
 
-HISTORIES = compare.Subject(__doc__, case_of, slices_of, line_of, range(8),
+HISTORIES = compare.Subject(__doc__, case_of, slices_of, line_of,
+                            (*range(8), 38),
                             ["answers_history.c", "history.c"])
 
 

@@ -5,6 +5,11 @@
  * something is, slower passes look for it in 01's order.  All passes are
  * linear; the hash table is so for taxa that nobody chose to defeat it.
  *
+ *   order      Nodes may be numbered in any order.  Where parents come first,
+ *              which one quick pass tells, nodes are gone through from the
+ *              highest number down.  Else each node is come to from the leaves,
+ *              when both of its children are done: if all are, no way goes
+ *              round.
  *   positions  Every species node has one, so that a node and all below it
  *              are a run: "at or below" is one subtraction and one test.
  *   slots      A hash table of the species leaves by taxon.
@@ -22,7 +27,9 @@
 enum {
     MOST_NODES = 2047,
     NO_PARENT = 65535,
+    NO_ROOT = 65535,
     MOST_SLOTS = 4096,
+    EMPTY_SLOT = 65535,
 
     BLOCK_BYTES = 512,
     CHECKED_BYTES = 508,
@@ -62,7 +69,7 @@ struct work {
                                       its first child's run starts; 0 at a leaf */
     uint16_t near[MOST_NODES];     /* by gene node: its first child's position, */
     uint16_t far[MOST_NODES];      /* and its second child's; 0 for no child */
-    uint16_t slots[MOST_SLOTS];    /* species leaves; 0 is an empty slot */
+    uint16_t slots[MOST_SLOTS];    /* species leaves */
     unsigned shift;                /* from a hashed taxon to a slot */
     uint8_t words[MOST_BLOCKS * CONTENT_BYTES];
 };
@@ -117,8 +124,7 @@ static struct verdict refused(uint32_t number, uint32_t tree, size_t place)
     return v;
 }
 
-/* The hash table.  Node 0 needs no slot: it is a leaf only if it is alone, and
- * an empty slot leads to it. */
+/* The hash table */
 
 static inline size_t slot_of(const struct work *w, uint32_t sought)
 {
@@ -136,7 +142,7 @@ static void clear_slots(struct work *w, size_t nodes)
     while ((size_t)1 << bits < 2 * nodes)
         bits++;
     w->shift = 32 - bits;
-    memset(w->slots, 0, sizeof w->slots[0] << bits);
+    memset(w->slots, 255, sizeof w->slots[0] << bits);
 }
 
 /* Puts a leaf into the hash table; false if its taxon is there already. */
@@ -144,7 +150,7 @@ static inline bool enter_leaf(struct work *w, const uint8_t *taxa, size_t leaf,
                               uint32_t own)
 {
     size_t slot = slot_of(w, own);
-    while (w->slots[slot] != 0) {
+    while (w->slots[slot] != EMPTY_SLOT) {
         if (taxon(taxa, w->slots[slot]) == own)
             return false;
         slot = next_slot(w, slot);
@@ -158,19 +164,17 @@ static size_t leaf_of(const struct work *w, struct tables species,
                       uint32_t sought)
 {
     size_t slot = slot_of(w, sought);
-    for (;;) {
-        size_t leaf = w->slots[slot];
-        if (taxon(species.taxa, leaf) == sought)
-            return leaf;
-        if (leaf == 0)
-            return species.count;
+    while (w->slots[slot] != EMPTY_SLOT) {
+        if (taxon(species.taxa, w->slots[slot]) == sought)
+            return w->slots[slot];
         slot = next_slot(w, slot);
     }
+    return species.count;
 }
 
-/* Trees: refusals 2 to 6 */
+/* Trees: refusals 2, 38 and 3 to 6 */
 
-static bool order_holds(struct tables t)
+static bool parents_first(struct tables t)
 {
     return word(t.parents, 0) == NO_PARENT
            && all_below(t.parents + 2, t.count - 1, 1, 1);
@@ -178,7 +182,7 @@ static bool order_holds(struct tables t)
 
 /* Gives each species node its position, from 1.  Up to then `position` holds
  * how far the node's run starts from its parent's position. */
-static void lay_out(struct work *w, struct tables t)
+static void lay_out_downward(struct work *w, struct tables t)
 {
     memset(w->turn, 0, t.count * sizeof w->turn[0]);
     for (size_t i = 0; i < t.count; i++)
@@ -194,6 +198,62 @@ static void lay_out(struct work *w, struct tables t)
     for (size_t i = 1; i < t.count; i++)
         w->position[i] = (uint16_t)(w->position[i]
                                     + w->position[word(t.parents, i)]);
+}
+
+/* A species node whose run is known comes to its parent; gives whether that
+ * makes the parent's known, which two children do. */
+static inline bool joins(struct work *w, size_t node, size_t above)
+{
+    bool second = w->turn[above] != 0;
+    uint16_t so_far = second ? w->run[above] : 1;
+    w->position[node] = w->turn[above] = so_far;
+    w->run[above] = (uint16_t)(so_far + w->run[node]);
+    return second;
+}
+
+/* The same for any numbering, if every node reaches one root; false if not, or
+ * if a node has three children or a taxon and a child.  `near` holds the nodes
+ * in the order in which they were done, so that the root is the last. */
+static bool lay_out_from_leaves(struct work *w, struct tables t)
+{
+    size_t done = 0, roots = 0;
+    memset(w->turn, 0, t.count * sizeof w->turn[0]);
+    for (size_t i = 0; i < t.count; i++) {
+        size_t at = i, above;
+        if (taxon(t.taxa, i) == 0)
+            continue;
+        w->run[i] = 1;
+        for (;; at = above) {
+            w->near[done++] = (uint16_t)at;
+            above = word(t.parents, at);
+            if (above >= t.count) {
+                if (above != NO_PARENT || roots++ > 0)
+                    return false;
+                break;
+            }
+            if (w->turn[above] > 1 || taxon(t.taxa, above) != 0)
+                return false;
+            if (!joins(w, at, above))
+                break;
+        }
+    }
+    if (done != t.count || roots != 1)
+        return false;
+    w->position[w->near[done - 1]] = 1;
+    for (size_t k = done - 1; k-- > 0;) {
+        size_t i = w->near[k];
+        w->position[i] = (uint16_t)(w->position[i]
+                                    + w->position[word(t.parents, i)]);
+    }
+    return true;
+}
+
+static bool lay_out(struct work *w, struct tables t)
+{
+    if (!parents_first(t))
+        return lay_out_from_leaves(w, t);
+    lay_out_downward(w, t);
+    return true;
 }
 
 /* Whether the taxa are as 3, 4 and 5 ask, after `lay_out`.  A node of two
@@ -217,29 +277,64 @@ static bool enter_leaves(struct work *w, struct tables t)
 
 static bool species_holds(struct work *w, struct tables t)
 {
-    if (!order_holds(t))
+    if (!lay_out(w, t))
         return false;
-    lay_out(w, t);
     clear_slots(w, t.count);
     return enter_leaves(w, t);
+}
+
+/* Refusal 2, or none and the root. */
+static struct verdict root_fault(struct tables t, uint32_t tree, size_t *root)
+{
+    bool found = false;
+    for (size_t i = 0; i < t.count; i++) {
+        uint16_t parent = word(t.parents, i);
+        if (parent < t.count)
+            continue;
+        if (found || parent != NO_PARENT)
+            return refused(2, tree, i);
+        *root = i;
+        found = true;
+    }
+    return found ? refused(0, NO_TREE, 0) : refused(2, tree, NO_ROOT);
+}
+
+/* The lowest node that never reaches the root, or the count.  From each node
+ * one walks up to one that was passed already; `passed` holds from which node,
+ * plus 1, and who meets the same walk again goes round. */
+static size_t lost_node(uint16_t *passed, struct tables t, size_t root)
+{
+    memset(passed, 0, t.count * sizeof passed[0]);
+    passed[root] = NO_PARENT;
+    for (size_t i = 0; i < t.count; i++) {
+        size_t at = i;
+        for (; passed[at] == 0; at = word(t.parents, at))
+            passed[at] = (uint16_t)(i + 1);
+        if (passed[at] == i + 1)
+            return i;
+    }
+    return t.count;
 }
 
 static void count_children(uint16_t *children, struct tables t)
 {
     memset(children, 0, t.count * sizeof children[0]);
-    for (size_t i = 1; i < t.count; i++)
-        children[word(t.parents, i)]++;
+    for (size_t i = 0; i < t.count; i++)
+        if (word(t.parents, i) != NO_PARENT)
+            children[word(t.parents, i)]++;
 }
 
-/* Refusals 2, 3 and 4. */
+/* Refusals 2, 38, 3 and 4. */
 static struct verdict tree_fault(struct tables t, uint32_t tree)
 {
     uint16_t children[MOST_NODES];
-    for (size_t i = 0; i < t.count; i++) {
-        uint16_t parent = word(t.parents, i);
-        if (i == 0 ? parent != NO_PARENT : parent >= i)
-            return refused(2, tree, i);
-    }
+    size_t root = 0, lost;
+    struct verdict v = root_fault(t, tree, &root);
+    if (v.number != 0)
+        return v;
+    lost = lost_node(children, t, root);
+    if (lost < t.count)
+        return refused(38, tree, lost);
     count_children(children, t);
     for (size_t i = 0; i < t.count; i++)
         if (children[i] != 0 && children[i] != 2)
@@ -247,7 +342,7 @@ static struct verdict tree_fault(struct tables t, uint32_t tree)
     for (size_t i = 0; i < t.count; i++)
         if ((children[i] == 0) == (taxon(t.taxa, i) == 0))
             return refused(4, tree, i);
-    return refused(0, NO_TREE, 0);
+    return v;
 }
 
 static struct verdict species_fault(struct work *w, struct tables t)
@@ -386,7 +481,7 @@ static struct record record_in(const uint8_t *words)
     return r;
 }
 
-/* Genes: refusals 2, 3, 4, 6 and 8 to 11 */
+/* Genes: refusals 2, 38, 3, 4, 6 and 8 to 11 */
 
 /* Whether an inner gene node at a place may have this label and children at
  * two positions.  Position 0, of a child that is missing, is in no run. */
@@ -422,15 +517,10 @@ static inline bool node_holds(const struct work *w, struct tables species,
 /* Children come before their parents here, and each tells its parent where it
  * is.  As for the species, every inner node has two children if each has two
  * or more and there are half as many of them as children. */
-static bool genes_hold(struct work *w, struct tables species,
-                       const struct record *r)
+static bool genes_hold_downward(struct work *w, struct tables species,
+                                const struct record *r)
 {
     size_t q = r->gene.count, inner = 0;
-    if (!order_holds(r->gene)
-        || !all_below(r->places, q, (uint16_t)species.count, 0))
-        return false;
-    memset(w->near, 0, q * sizeof w->near[0]);
-    memset(w->far, 0, q * sizeof w->far[0]);
     for (size_t i = q - 1; i > 0; i--) {
         size_t above = word(r->gene.parents, i);
         if (!node_holds(w, species, r, i, &inner))
@@ -439,6 +529,49 @@ static bool genes_hold(struct work *w, struct tables species,
         w->near[above] = w->position[word(r->places, i)];
     }
     return node_holds(w, species, r, 0, &inner) && 2 * inner == q - 1;
+}
+
+/* The same for any numbering.  An inner node is done with its second child; a
+ * third is a fault.  If all nodes are done, one of them is the root and there
+ * are half as many inner ones as children, no leaf has a child. */
+static bool genes_hold_from_leaves(struct work *w, struct tables species,
+                                   const struct record *r)
+{
+    size_t q = r->gene.count, inner = 0, leaves = 0, roots = 0;
+    for (size_t i = 0; i < q; i++) {
+        size_t at = i, above;
+        if (taxon(r->gene.taxa, i) == 0)
+            continue;
+        leaves++;
+        do {
+            if (!node_holds(w, species, r, at, &inner))
+                return false;
+            above = word(r->gene.parents, at);
+            if (above >= q) {
+                if (above != NO_PARENT || roots++ > 0)
+                    return false;
+                break;
+            }
+            if (w->far[above] != 0)
+                return false;
+            w->far[above] = w->near[above];
+            w->near[above] = w->position[word(r->places, at)];
+            at = above;
+        } while (w->far[above] != 0);
+    }
+    return roots == 1 && leaves + inner == q && 2 * inner == q - 1;
+}
+
+static bool genes_hold(struct work *w, struct tables species,
+                       const struct record *r)
+{
+    size_t q = r->gene.count;
+    if (!all_below(r->places, q, (uint16_t)species.count, 0))
+        return false;
+    memset(w->near, 0, q * sizeof w->near[0]);
+    memset(w->far, 0, q * sizeof w->far[0]);
+    return parents_first(r->gene) ? genes_hold_downward(w, species, r)
+                                  : genes_hold_from_leaves(w, species, r);
 }
 
 /* Refusals 6, 8 and 9: what concerns a node alone. */
@@ -472,10 +605,12 @@ static struct verdict descent_fault(struct work *w, const struct record *r)
     size_t q = r->gene.count;
     memset(w->near, 0, q * sizeof w->near[0]);
     memset(w->far, 0, q * sizeof w->far[0]);
-    for (size_t i = 1; i < q; i++) {
-        size_t above = word(r->gene.parents, i);
-        size_t place = word(r->places, above);
+    for (size_t i = 0; i < q; i++) {
+        size_t above = word(r->gene.parents, i), place;
         uint16_t at = w->position[word(r->places, i)];
+        if (above == NO_PARENT)
+            continue;
+        place = word(r->places, above);
         if ((uint16_t)(at - w->position[place]) >= w->run[place])
             return refused(10, GENE, i);
         w->far[above] = w->near[above];
@@ -561,24 +696,29 @@ uint32_t fast_refusal_bytewise(const uint8_t *image, size_t image_len,
     return judge(&w, image, image_len, rack, check_bytewise).number;
 }
 
+/* The steps from a species node up to another above it. */
+static uint32_t steps_up(struct tables rack, size_t from, size_t to)
+{
+    uint32_t steps = 0;
+    for (; from != to; from = word(rack.parents, from))
+        steps++;
+    return steps;
+}
+
 /* The duplications and losses of an accepted image. */
 static void count(struct fast_answer *answer, const struct work *w,
                   struct tables rack)
 {
     struct record r = record_in(w->words);
-    uint16_t depth[MOST_NODES];
-    depth[0] = 0;
-    for (size_t i = 1; i < rack.count; i++)
-        depth[i] = (uint16_t)(depth[word(rack.parents, i)] + 1);
     for (size_t i = 0; i < r.gene.count; i++) {
+        size_t above = word(r.gene.parents, i);
         if (word(r.labels, i) == DUPLICATION)
             answer->duplications++;
-        if (i > 0) {
-            size_t above = word(r.gene.parents, i);
-            answer->losses += depth[word(r.places, i)];
-            answer->losses -= depth[word(r.places, above)];
-            answer->losses -= word(r.labels, above) == SPECIATION;
-        }
+        if (above == NO_PARENT)
+            continue;
+        answer->losses += steps_up(rack, word(r.places, i),
+                                   word(r.places, above));
+        answer->losses -= word(r.labels, above) == SPECIATION;
     }
 }
 

@@ -1,10 +1,16 @@
-/* The least history of a gene tree in plain C, with a kilobyte of memory.
+/* The least history of a gene tree in plain C, with two kilobytes of memory.
  *
- * Each rule is a pass of its own, in 01's order.  Child counts take two bits a
- * node.  Taxa are looked up in rounds: 256 species leaves at a time go into a
- * table of 512 hints, and then every leaf that is sought asks the table.  A
- * hint is a node's number plus one, at its hashed taxon or the next free entry;
- * it counts only if the taxon there is the one sought.
+ * Each rule is a pass of its own, in 01's order.  Taxa are looked up in rounds:
+ * 512 species leaves at a time go into a table of 1,024 hints, and then every
+ * leaf that is sought asks the table.  A hint is a node's number plus one, at
+ * its hashed taxon or the next free entry; it counts only if the taxon there is
+ * the one sought.
+ *
+ * Nodes may be numbered in any order.  Where parents come first in both trees,
+ * which one quick pass over each tells, the numbers themselves say which of two
+ * species nodes climbs and in which order gene nodes come.  Else depths do, and
+ * gene nodes come when their children have; the depth of a child that waits at
+ * its parent stands in the lent labels.
  *
  * Lent tables are written when both trees are known to be sound and the room is
  * known to be enough.
@@ -17,9 +23,10 @@
 enum {
     MOST_NODES = 2047,
     NO_PARENT = 65535,
+    NO_ROOT = 65535,
     NO_PLACE = 65535, /* of an inner gene node none of whose children is done */
-    HINTS = 512,
-    HINT_BITS = 9,
+    HINTS = 1024,
+    HINT_BITS = 10,
     LEAVES_IN_ROUND = HINTS / 2,
     COUNTS = 4
 };
@@ -40,10 +47,11 @@ struct tables {
     size_t taxa_count;
 };
 
-/* The kilobyte: each use is over before the next begins. */
+/* The two kilobytes: each use is over before the next begins. */
 union work {
-    uint8_t children[HINTS];  /* four nodes a byte; 3 is three or more */
-    uint16_t hints[HINTS];    /* 0 is an empty entry */
+    bool reaching[MOST_NODES];    /* the root */
+    uint8_t children[MOST_NODES]; /* 3 is three or more */
+    uint16_t hints[HINTS];        /* 0 is an empty entry */
 };
 
 static struct verdict refused(uint32_t number, uint32_t tree, size_t place)
@@ -52,7 +60,7 @@ static struct verdict refused(uint32_t number, uint32_t tree, size_t place)
     return v;
 }
 
-/* One tree: refusals 1 to 4 */
+/* One tree: refusals 1, 2, 38, 3 and 4 */
 
 static bool size_holds(struct tables t)
 {
@@ -60,37 +68,71 @@ static bool size_holds(struct tables t)
            && t.parents_count <= MOST_NODES;
 }
 
-/* The lowest node whose parent entry breaks the order, or the count. */
-static size_t misordered(struct tables t)
+/* Whether parents come first. */
+static bool parents_first(struct tables t)
 {
     size_t i = 1;
     if (t.parents[0] != NO_PARENT)
-        return 0;
+        return false;
     while (i < t.parents_count && t.parents[i] < i)
         i++;
-    return i;
+    return i == t.parents_count;
 }
 
-static unsigned children_of(const union work *w, size_t node)
+/* Refusal 2, or none and the root. */
+static struct verdict root_fault(struct tables t, uint32_t tree, size_t *root)
 {
-    return w->children[node / 4] >> 2 * (node % 4) & 3;
+    bool found = false;
+    for (size_t i = 0; i < t.parents_count; i++) {
+        if (t.parents[i] < t.parents_count)
+            continue;
+        if (found || t.parents[i] != NO_PARENT)
+            return refused(2, tree, i);
+        *root = i;
+        found = true;
+    }
+    return found ? refused(0, NO_TREE, 0) : refused(2, tree, NO_ROOT);
 }
 
-static void count_children(union work *w, struct tables t)
+/* The lowest node that never reaches the root, or the count.  From each node
+ * one walks up to one that is known to reach it, and then all that was passed
+ * does too; who has walked for longer than there are nodes goes round. */
+static size_t lost_node(union work *w, struct tables t, size_t root)
 {
-    memset(w->children, 0, sizeof w->children);
-    for (size_t i = 1; i < t.parents_count; i++)
-        if (children_of(w, t.parents[i]) < 3)
-            w->children[t.parents[i] / 4] =
-                (uint8_t)(w->children[t.parents[i] / 4]
-                          + (1 << 2 * (t.parents[i] % 4)));
+    memset(w->reaching, 0, t.parents_count);
+    w->reaching[root] = true;
+    for (size_t i = 0; i < t.parents_count; i++) {
+        size_t at = i, steps = 0;
+        for (; !w->reaching[at]; at = t.parents[at])
+            if (steps++ == t.parents_count)
+                return i;
+        for (at = i; !w->reaching[at]; at = t.parents[at])
+            w->reaching[at] = true;
+    }
+    return t.parents_count;
+}
+
+static void count_children(union work *w, struct tables t, size_t from,
+                           size_t to)
+{
+    for (size_t i = from; i < to; i++) {
+        uint8_t *children = &w->children[t.parents[i]];
+        *children = (uint8_t)(*children + (*children < 3));
+    }
+}
+
+static void count_all_children(union work *w, struct tables t, size_t root)
+{
+    memset(w->children, 0, t.parents_count);
+    count_children(w, t, 0, root);
+    count_children(w, t, root + 1, t.parents_count);
 }
 
 /* The lowest node with neither no children nor two, or the count. */
 static size_t misshapen(const union work *w, struct tables t)
 {
     size_t i = 0;
-    while (i < t.parents_count && (children_of(w, i) & 1) == 0)
+    while (i < t.parents_count && (w->children[i] & 1) == 0)
         i++;
     return i;
 }
@@ -99,24 +141,30 @@ static size_t misshapen(const union work *w, struct tables t)
 static size_t miskinded(const union work *w, struct tables t)
 {
     size_t i = 0;
-    while (i < t.taxa_count && (children_of(w, i) == 0) == (t.taxa[i] != 0))
+    while (i < t.taxa_count && (w->children[i] == 0) == (t.taxa[i] != 0))
         i++;
     return i;
 }
 
 static struct verdict tree_fault(union work *w, struct tables t, uint32_t tree)
 {
-    size_t at;
+    struct verdict v = refused(0, NO_TREE, 0);
+    size_t at, root = 0;
     if (!size_holds(t))
         return refused(1, tree, 0);
-    if ((at = misordered(t)) < t.parents_count)
-        return refused(2, tree, at);
-    count_children(w, t);
+    if (!parents_first(t)) {
+        v = root_fault(t, tree, &root);
+        if (v.number != 0)
+            return v;
+        if ((at = lost_node(w, t, root)) < t.parents_count)
+            return refused(38, tree, at);
+    }
+    count_all_children(w, t, root);
     if ((at = misshapen(w, t)) < t.parents_count)
         return refused(3, tree, at);
     if ((at = miskinded(w, t)) < t.parents_count)
         return refused(4, tree, at);
-    return refused(0, NO_TREE, 0);
+    return v;
 }
 
 /* Look-ups */
@@ -239,36 +287,106 @@ static void place_leaves(union work *w, struct tables species,
     }
 }
 
-/* Children before parents.  The first child that comes to an inner node leaves
- * its place there; when the second comes, both climb to where they meet. */
+/* A place on its way up.  Its rank falls with every step: the place's own number
+ * where parents come first, else its depth. */
+struct climber {
+    uint16_t place, rank;
+};
+
+static inline struct climber step_up(struct tables species, struct climber c,
+                                     bool straight)
+{
+    c.place = species.parents[c.place];
+    c.rank = straight ? c.place : (uint16_t)(c.rank - 1);
+    return c;
+}
+
+static uint16_t depth_of(struct tables species, size_t node)
+{
+    uint16_t depth = 0;
+    for (; species.parents[node] != NO_PARENT; node = species.parents[node])
+        depth++;
+    return depth;
+}
+
+/* The history so far. */
+struct history {
+    uint16_t *places, *labels;
+    uint64_t duplications, climbs;
+};
+
+/* A child comes to its parent.  The first one leaves its place there, and false
+ * is given; when the second one comes, both climb to where they meet, and it is
+ * the parent's turn to go on from there. */
+static inline bool arrive(struct history *h, struct tables species,
+                          size_t above, struct climber *child, bool straight)
+{
+    struct climber one = {h->places[above],
+                          straight ? h->places[above] : h->labels[above]};
+    struct climber other = *child;
+    uint64_t climbs = 0;
+    bool shared;
+    if (one.place == NO_PLACE) {
+        h->places[above] = other.place;
+        if (!straight)
+            h->labels[above] = other.rank;
+        return false;
+    }
+    while (one.place != other.place) {
+        if (one.rank > other.rank)
+            one = step_up(species, one, straight);
+        else
+            other = step_up(species, other, straight);
+        climbs++;
+    }
+    shared = one.place == h->places[above] || one.place == child->place;
+    h->places[above] = one.place;
+    h->labels[above] = shared ? DUPLICATION : SPECIATION;
+    h->duplications += shared;
+    h->climbs += climbs;
+    *child = one;
+    return true;
+}
+
+/* Parents come first in both trees: the numbers, from the highest down. */
+static void climb_straight(struct history *h, struct tables species,
+                           struct tables genes)
+{
+    for (size_t i = genes.parents_count - 1; i > 0; i--) {
+        struct climber child = {h->places[i], h->places[i]};
+        arrive(h, species, genes.parents[i], &child, true);
+    }
+}
+
+/* Any numbering: from each leaf up, as far as both children have come. */
+static void climb_from_leaves(struct history *h, struct tables species,
+                              struct tables genes)
+{
+    for (size_t i = 0; i < genes.parents_count; i++) {
+        struct climber child = {h->places[i], 0};
+        size_t above = genes.parents[i];
+        if (genes.taxa[i] == 0)
+            continue;
+        child.rank = depth_of(species, child.place);
+        while (above != NO_PARENT && arrive(h, species, above, &child, false))
+            above = genes.parents[above];
+    }
+}
+
 static void climb(struct tables species, struct tables genes, uint16_t *places,
                   uint16_t *labels, uint64_t *counts)
 {
-    uint64_t duplications = 0, climbs = 0, inner = genes.parents_count / 2;
-    for (size_t i = genes.parents_count - 1; i > 0; i--) {
-        size_t above = genes.parents[i];
-        uint16_t one = places[above], other = places[i];
-        bool shared;
-        if (one == NO_PLACE) {
-            places[above] = other;
-            continue;
-        }
-        while (one != other) {
-            if (one > other)
-                one = species.parents[one];
-            else
-                other = species.parents[other];
-            climbs++;
-        }
-        shared = one == places[above] || one == places[i];
-        places[above] = one;
-        labels[above] = shared ? DUPLICATION : SPECIATION;
-        duplications += shared;
-    }
-    counts[0] = duplications;
-    counts[1] = climbs - 2 * (inner - duplications);
-    counts[2] = inner - duplications;
-    counts[3] = climbs;
+    struct history h = {places, labels, 0, 0};
+    uint64_t speciations;
+    if (parents_first(species) && parents_first(genes))
+        climb_straight(&h, species, genes);
+    else
+        climb_from_leaves(&h, species, genes);
+    speciations = genes.parents_count / 2 - h.duplications;
+    counts[0] = h.duplications;
+    counts[1] = h.climbs - 2 * speciations;
+    counts[2] = speciations;
+    counts[3] = h.climbs;
 }
 
 /* The calls */

@@ -1,5 +1,5 @@
 /* panheron_history and its two companions by plain C that nobody proved, in
- * the same kilobyte of stack: the measure that Panheron is held to.
+ * the same three kilobytes of stack: the measure that Panheron is held to.
  *
  * Parameters and answers are those of panheron.h.
  */

@@ -6,7 +6,7 @@
 #
 # Without ARCHIVE it is built first.  fast C is fast.c; bytewise C is the same
 # with the check of a block as 01 writes it, a byte at a time; plain C is
-# history.c, in a kilobyte.  Instructions are those of one call: the difference of
+# history.c, in two kilobytes.  Instructions are those of one call: the difference of
 # two runs that differ in the number of calls alone, by valgrind or, where there
 # is none, by qemu and icount.c.  They vary by some ten from run to run, with where
 # the stack begins.  Of the stack it is the bytes down to the lowest that a call
@@ -16,7 +16,7 @@ root=$(dirname "$(dirname "$(readlink -f "$0")")")
 . "$root/tools/common.sh"
 
 calls=10
-shapes='balanced random caterpillar'
+shapes='balanced random caterpillar balanced-shuffled random-shuffled caterpillar-shuffled'
 sizes='15,15 255,255 2047,2047 2047,31'
 
 # The C library's copying by one instruction that repeats itself would be counted
@@ -77,25 +77,25 @@ ratio() { awk -v a="$1" -v b="$2" 'BEGIN { printf "%.2f", a / b }'; }
 # ---- the tables
 
 find_counter
-printf '%-12s %5s %5s %12s %12s %6s %12s %6s\n' refusal p q Panheron 'fast C' ratio 'bytewise C' ratio
+printf '%-20s %5s %5s %12s %12s %6s %12s %6s\n' refusal p q Panheron 'fast C' ratio 'bytewise C' ratio
 for size in $sizes; do
     p=${size%,*} q=${size#*,}
     for shape in $shapes; do
         panheron=$(instructions panheron_refusal "$shape" "$p" "$q") || exit 3
         fast=$(instructions fast_refusal "$shape" "$p" "$q") || exit 3
         bytewise=$(instructions fast_refusal_bytewise "$shape" "$p" "$q") || exit 3
-        printf '%-12s %5d %5d %12d %12d %6s %12d %6s\n' "$shape" "$p" "$q" "$panheron" \
+        printf '%-20s %5d %5d %12d %12d %6s %12d %6s\n' "$shape" "$p" "$q" "$panheron" \
             "$fast" "$(ratio "$panheron" "$fast")" "$bytewise" "$(ratio "$panheron" "$bytewise")"
     done
 done
 
-printf '\n%-12s %5s %5s %12s %12s %6s\n' history p q Panheron 'plain C' ratio
+printf '\n%-20s %5s %5s %12s %12s %6s\n' history p q Panheron 'plain C' ratio
 for size in $sizes; do
     p=${size%,*} q=${size#*,}
     for shape in $shapes; do
         panheron=$(instructions panheron_history "$shape" "$p" "$q") || exit 3
         plain=$(instructions plain_history "$shape" "$p" "$q") || exit 3
-        printf '%-12s %5d %5d %12d %12d %6s\n' "$shape" "$p" "$q" "$panheron" \
+        printf '%-20s %5d %5d %12d %12d %6s\n' "$shape" "$p" "$q" "$panheron" \
             "$plain" "$(ratio "$panheron" "$plain")"
     done
 done

@@ -32,9 +32,9 @@ LIMITS = {
     "panheron_place": 60000,
     "panheron_duplications": 60000,
     "panheron_losses": 60000,
-    "panheron_history": 2048,
-    "panheron_history_tree": 2048,
-    "panheron_history_place": 2048,
+    "panheron_history": 3072,
+    "panheron_history_tree": 3072,
+    "panheron_history_place": 3072,
 }
 
 PREFIX = "panheron_"

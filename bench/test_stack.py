@@ -238,13 +238,13 @@ class Refused(unittest.TestCase):
 
 class Limits(unittest.TestCase):
     def wrong(self, needs):
-        return list(stack.excesses(needs, {"panheron_history": 2048}))
+        return list(stack.excesses(needs, {"panheron_history": 3072}))
 
     def test_within(self):
-        self.assertEqual(self.wrong({"panheron_history": 2048}), [])
+        self.assertEqual(self.wrong({"panheron_history": 3072}), [])
 
     def test_over(self):
-        self.assertIn("2049", self.wrong({"panheron_history": 2049})[0])
+        self.assertIn("3073", self.wrong({"panheron_history": 3073})[0])
 
     def test_missing(self):
         self.assertIn("not in the archive", self.wrong({"panheron_x": 8})[0])

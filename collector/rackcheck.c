@@ -117,7 +117,9 @@ static const struct words {
     const char *topic, *before, *after;
 } all_words[NUMBERS] = {
     [PANHERON_PARENT_ORDER] = {"gene tree unsound", "the parent of ",
-        " is out of order: node 0 has 65535, every other node a lower one"},
+        " is no node of the tree, or a second root's 65535"},
+    [PANHERON_ROOT_UNREACHED] = {"gene tree unsound", "going up from ",
+        " never leads to the root"},
     [PANHERON_CHILD_COUNT] = {"gene tree unsound", "",
         " has neither two children nor none"},
     [PANHERON_TAXON_KIND] = {"gene tree unsound", "",
@@ -181,6 +183,10 @@ static void explain(FILE *out, struct refusal refusal, size_t length)
              && refusal.place == PANHERON_COUNTS_DIFFER)
         fprintf(out, "species tables are another release's: another number of "
                 "species nodes");
+    else if (refusal.number == PANHERON_PARENT_ORDER
+             && refusal.place == PANHERON_NO_ROOT)
+        fprintf(out, "the %s tree has no root: no parent is 65535",
+                refusal.tree == 1 ? "species" : "gene");
     else if (words.after == NULL || refusal.tree > 2)
         fprintf(out, "%s", words.before);
     else

@@ -17,7 +17,7 @@
  *
  *                                      given                       stack
  *   about a stored image               three slices of bytes       60,000 bytes
- *   panheron_history, _tree, _place    tables of numbers           2,048 bytes
+ *   panheron_history, _tree, _place    tables of numbers           3,072 bytes
  *
  * The stack is the most that the machine code can use: the return address and
  * all that is called are in it, arguments that the caller puts there are not.
@@ -40,17 +40,19 @@ extern "C" {
  * panheron_history_tree gives.  A number is found over the whole table or image
  * before the next is looked for.
  *
- *   about an image    1 to 5 in the rack's tables, then 13 to 18, then 2, 3, 4, 6
- *                     and 8 to 11 in the gene tree of the image
- *   panheron_history  1 to 5 in the species tables, then 1, 2, 3, 4 and 6 in the
- *                     gene tables, then 7 */
+ *   about an image    1, 2, 38, 3, 4 and 5 in the rack's tables, then 13 to 18,
+ *                     then 2, 38, 3, 4, 6 and 8 to 11 in the gene tree of the
+ *                     image
+ *   panheron_history  1, 2, 38, 3, 4 and 5 in the species tables, then 1, 2, 38,
+ *                     3, 4 and 6 in the gene tables, then 7 */
 enum panheron_number {
     PANHERON_ACCEPTED = 0,          /* none: place 0 [0] */
     PANHERON_TABLE_SIZE = 1,        /* a table is empty or over 2,047 nodes, or
                                        the two of a tree differ in length:
                                        0 [1, 2] */
-    PANHERON_PARENT_ORDER = 2,      /* a parent is not 65,535 at node 0, or not
-                                       below its node elsewhere: node [1, 2] */
+    PANHERON_PARENT_ORDER = 2,      /* a parent that is no node, or a second
+                                       65,535: node; else no 65,535 at all:
+                                       65,535 [1, 2] */
     PANHERON_CHILD_COUNT = 3,       /* a node has neither no children nor two:
                                        node [1, 2] */
     PANHERON_TAXON_KIND = 4,        /* a leaf has taxon 0, or an inner node
@@ -80,13 +82,18 @@ enum panheron_number {
     PANHERON_COUNTS = 17,           /* a count is 0 or over 2,047, or doesn't
                                        fit the number of blocks, or the filling
                                        is not zero: 0 [0] */
-    PANHERON_OTHER_RELEASE = 18     /* the image's species tables aren't the
+    PANHERON_OTHER_RELEASE = 18,    /* the image's species tables aren't the
                                        rack's: the lowest node that differs, or
                                        65,535 if the counts differ [1] */
+    PANHERON_ROOT_UNREACHED = 38    /* going up from a node never leads to the
+                                       root: node [1, 2] */
 };
 
 /* The place of number 18 for another number of species nodes. */
 #define PANHERON_COUNTS_DIFFER 65535
+
+/* The place of number 2 for a tree without a root. */
+#define PANHERON_NO_ROOT 65535
 
 /* Calls about a stored image.  Each is given the same three slices, a pointer
  * and a length in bytes:
@@ -109,8 +116,8 @@ uint32_t panheron_tree(const uint8_t *image, size_t image_len,
                        const uint8_t *parents, size_t parents_len,
                        const uint8_t *taxa, size_t taxa_len);
 
-/* The place of the refusal: the lowest node or block at fault, as listed
- * above.  0 if there is none or not refused. */
+/* The place of the refusal: the lowest node or block at fault, or 65,535, as
+ * listed above.  0 if there is none or not refused. */
 uint32_t panheron_place(const uint8_t *image, size_t image_len,
                         const uint8_t *parents, size_t parents_len,
                         const uint8_t *taxa, size_t taxa_len);
@@ -130,10 +137,10 @@ uint32_t panheron_losses(const uint8_t *image, size_t image_len,
 /* The least history of a gene tree on a species tree.
  *
  * Each table is a pointer and its number of entries: of entries, not of bytes.
- * A tree comes as two tables with one entry a node, the nodes numbered from 0:
+ * A tree comes as two tables with one entry a node, the nodes numbered from 0
+ * in any order:
  *
- *   parents  65,535 for node 0; for every other node the number of its parent,
- *            which is less than its own
+ *   parents  65,535 for the root; for every other node the number of its parent
  *   taxa     the taxon of a leaf, never 0; 0 for an inner node
  *
  * Species nodes and gene nodes are counted apart, each from 0.  A species parent
@@ -147,8 +154,8 @@ uint32_t panheron_losses(const uint8_t *image, size_t image_len,
  *   counts   4 entries: duplications, losses, speciations and climbs
  *
  * Answers 0 and fills the first q entries of places and labels and the first
- * four of counts; or answers the number of the refusal (1 to 7), and then all
- * three are as they were.  Entries behind the q-th and the fourth are never
+ * four of counts; or answers the number of the refusal (1 to 7, 38), and then
+ * all three are as they were.  Entries behind the q-th and the fourth are never
  * written, and what the lent tables hold before the call doesn't matter.  They
  * may overlap neither one another nor the four tables that are read. */
 enum panheron_label {
@@ -177,7 +184,8 @@ uint32_t panheron_history_tree(
 
 /* The place of the same refusal: the lowest node at fault, a species node where
  * panheron_history_tree gives 1 and a gene node where it gives 2.  0 for number
- * 1, which is about no node, and if the tables are sound. */
+ * 1, which is about no node, and if the tables are sound; PANHERON_NO_ROOT for
+ * number 2 where there is no root. */
 uint32_t panheron_history_place(
     const uint16_t *species_parents, size_t species_parents_count,
     const uint32_t *species_taxa, size_t species_taxa_count,

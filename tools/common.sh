@@ -133,7 +133,7 @@ prove_program() { # NAME MINUTES
 }
 
 prove_archive() {
-    announce 4
+    announce 6
     rt staticlib collector
 }
 

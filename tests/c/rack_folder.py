@@ -6,7 +6,9 @@ In FOLDER: the release's `parents` and `taxa`, some unusable tables beside
 them, the images `good-*`, and the images of `images.txt`: accepted, of other
 releases, damaged, against the rules, and such that can't be read.  The report
 expected for them is `report.txt`, that for the good ones alone `good.txt`, and
-that for `good-00` given so many times `times-N.txt`.
+that for `good-00` given so many times `times-N.txt`.  `parents-turned` and
+`taxa-turned` are the same release numbered the other way round, `turned-*`
+images of its own, and `turned.txt` the report on those.
 
 Numbers come from the Python reference; the words are typed in here.
 """
@@ -24,13 +26,15 @@ import generate_trees as trees  # noqa: E402
 import panheron_reference as reference  # noqa: E402
 
 GOOD = 12
+TURNED = 4
+NO_ROOT = 65535
 TIMES = (2, 3, 70)
 MOST_BYTES = 1 << 20
 
 SPECIES_WORDS = "species tables are another release's: "
 WORDS = {
-    2: "the parent of gene node %d is out of order: node 0 has 65535, every "
-       "other node a lower one",
+    2: "the parent of gene node %d is no node of the tree, or a second root's "
+       "65535",
     3: "gene node %d has neither two children nor none",
     4: "gene node %d is a leaf without a taxon, or an inner node with one",
     6: "gene node %d has a taxon that is not in this release",
@@ -46,6 +50,7 @@ WORDS = {
     16: "not an image of form 1: from a newer program, or no image",
     17: "its counts don't fit its length, or its filling is not zero",
     18: SPECIES_WORDS + "first difference at species node %d",
+    38: "going up from gene node %d never leads to the root",
 }
 TOPICS = {2: "gene tree unsound", 3: "gene tree unsound",
           4: "gene tree unsound", 6: "gene tree unsound",
@@ -53,14 +58,25 @@ TOPICS = {2: "gene tree unsound", 3: "gene tree unsound",
           10: "history not legal", 11: "history not legal",
           13: "wrong length", 14: "damaged", 15: "blocks in disorder",
           16: "another form", 17: "counts or filling wrong",
-          18: "another release"}
+          18: "another release", 38: "gene tree unsound"}
 
 
 # The images
 
 
 def release_of(rng):
-    return trees.species_tree(rng, 16)
+    """A release whose root is not its first node and whose last node is a
+    leaf."""
+    while True:
+        release = trees.species_tree(rng, 16)
+        if release.parents[0] != reference.NO_PARENT and release.taxa[-1]:
+            return release
+
+
+def turned(release):
+    """The same release, numbered the other way round."""
+    count = len(release.parents)
+    return trees.renumbered(release, range(count - 1, -1, -1))
 
 
 def family(rng, release, leaves=30):
@@ -76,6 +92,7 @@ def other_releases(rng, release):
     yield "renamed", images.renamed_taxon(rng, case).rack
     yield "count", trees.species_tree(rng, 15)
     yield "shape", trees.species_tree(rng, 16)
+    yield "numbers", turned(release)
 
 
 def damaged(rng, image):
@@ -109,11 +126,19 @@ def until(wanted, make):
 
 
 def against_rules(rng, release):
-    """An image for each of the gene tree's numbers, on this release."""
-    def unsound(number):
+    """Images for each of the gene tree's numbers, on this release."""
+    faults = ((2, "parent", trees.wrong_parent),
+              (2, "second-root", trees.second_root),
+              (2, "no-root", trees.no_root), (38, "circle", trees.circle),
+              (38, "own-parent", trees.own_parent),
+              (3, "shape", trees.wrong_shape),
+              (4, "kind", trees.wrong_kind_of_taxon),
+              (6, "unknown", trees.unknown_taxon))
+
+    def unsound(fault):
         stored = family(rng, release, 10)
         tables = trees.Tables(stored.gene_parents, stored.gene_taxa)
-        trees.GENE_FAULTS[number](rng, tables)
+        fault(rng, tables)
         count = len(tables.parents)
         return images.Case(release, images.image_of(stored._replace(
             places=(stored.places + [0, 0])[:count],
@@ -127,10 +152,10 @@ def against_rules(rng, release):
         return images.Case(release, images.image_of(
             images.stored_with(*pair, history)))
 
-    for number in (2, 3, 4, 6):
-        yield number, until(number, lambda: unsound(number))
+    for number, name, fault in faults:
+        yield "%d-%s" % (number, name), until(number, lambda: unsound(fault))
     for number in (8, 9, 10, 11):
-        yield number, until(number, lambda: unlawful(number))
+        yield str(number), until(number, lambda: unlawful(number))
 
 
 def all_images(rng, release):
@@ -139,8 +164,8 @@ def all_images(rng, release):
         yield "stale-" + name, images.image_of(family(rng, old))
     for name, image in damaged(rng, images.image_of(family(rng, release))):
         yield "damaged-" + name, image
-    for number, image in against_rules(rng, release):
-        yield "rule-%d" % number, image
+    for name, image in against_rules(rng, release):
+        yield "rule-" + name, image
 
 
 # The report
@@ -162,6 +187,8 @@ def why(answer, image):
         return length_words(image)
     if answer.refusal == 18 and answer.place == 65535:
         return SPECIES_WORDS + "another number of species nodes"
+    if answer.refusal == 2 and answer.place == NO_ROOT:
+        return "the gene tree has no root: no parent is 65535"
     words = WORDS[answer.refusal]
     return words % answer.place if "%" in words else words
 
@@ -219,11 +246,23 @@ def save_tables(folder, release):
     parents, taxa = tables_as_bytes(release)
     save(folder, "parents", parents)
     save(folder, "taxa", taxa)
+    for name, table in zip(("parents-turned", "taxa-turned"),
+                           tables_as_bytes(turned(release))):
+        save(folder, name, table)
     save(folder, "parents-short", parents[:-2])
     save(folder, "parents-odd", parents + b"\0")
     save(folder, "parents-empty", b"")
-    save(folder, "parents-disordered", parents[:6] + b"\7\0" + parents[8:])
+    save(folder, "parents-outside", parents[:6] + parents_bytes(31)
+         + parents[8:])
+    save(folder, "parents-two-roots", parents[:-2] + parents_bytes(65535))
+    save(folder, "parents-rootless", parents.replace(
+        parents_bytes(65535), parents_bytes(0)))
+    save(folder, "parents-round", parents_bytes(0) + parents[2:])
     save(folder, "taxa-repeated", taxa[:-4] + taxa_of_a_leaf(release))
+
+
+def parents_bytes(*entries):
+    return reference.low_byte_first(entries)
 
 
 def taxa_of_a_leaf(release):
@@ -251,7 +290,9 @@ def main():
     good = [("good-%02d" % k, images.image_of(family(rng, release)))
             for k in range(GOOD)]
     everything = sorted(good + list(all_images(rng, release)))
-    for name, image in everything:
+    own = [("turned-%02d" % k, images.image_of(family(rng, turned(release))))
+           for k in range(TURNED)]
+    for name, image in everything + own:
         save(folder, name, image)
     os.mkdir(os.path.join(folder, "a-folder"))
     report = report_on(release, everything)
@@ -261,6 +302,7 @@ def main():
     save(folder, "images.txt", "\n".join(names).encode("ascii"))
     save_report(folder, "report.txt", report)
     save_report(folder, "good.txt", report_on(release, good))
+    save_report(folder, "turned.txt", report_on(turned(release), own))
     for times in TIMES:
         save_report(folder, "times-%d.txt" % times,
                     report_on(release, good[:1] * times))

@@ -23,6 +23,7 @@
 
 #include "fence.h"
 #include "panheron.h"
+#include "turn.h"
 
 enum {
     MOST_NODES = 2048, /* one more than a tree may have */
@@ -224,13 +225,19 @@ static void refuses(const char *name, size_t at, const struct question *q,
 
 static const struct tree release = {5, {65535, 0, 1, 1, 0}, {0, 0, 11, 12, 13}};
 
-/* A question about one family on the small release. */
-static struct question *about(const struct family *family)
+/* A question about one family on a release. */
+static struct question *about_on(const struct tree *species,
+                                 const struct family *family)
 {
     static struct question q;
-    write_rack(&q, &release);
-    write_image(&q.image, &release, family);
+    write_rack(&q, species);
+    write_image(&q.image, species, family);
     return &q;
+}
+
+static struct question *about(const struct family *family)
+{
+    return about_on(&release, family);
 }
 
 /* 01's gene trees with their least histories */
@@ -266,6 +273,28 @@ static void make_caterpillar(struct family *f, size_t count, uint32_t taxon,
     f->genes.parents[0] = 65535;
 }
 
+/* A caterpillar of 2,047 species; the taxon of leaf i is 70,000 + i. */
+static void make_largest_release(struct tree *species)
+{
+    static struct family f;
+    make_caterpillar(&f, 2047, 1, 0);
+    *species = f.genes;
+    for (size_t i = 0; i < 2047; i++)
+        if (species->taxa[i] != 0)
+            species->taxa[i] = (uint32_t)(70000 + i);
+}
+
+/* Tables in any order: the small release and the second gene tree with children
+ * before parents, and the release and the fifth with the root in the middle */
+static const struct tree upward = {5, {4, 3, 3, 4, 65535}, {13, 12, 11, 0, 0}};
+static const struct family second_upward = {
+    {5, {4, 3, 3, 4, 65535}, {12, 13, 11, 0, 0}},
+    {1, 0, 2, 4, 4}, {0, 0, 0, 1, 2}};
+static const struct tree middle = {5, {3, 3, 65535, 2, 2}, {11, 12, 0, 0, 13}};
+static const struct family fifth_middle = {
+    {5, {3, 2, 65535, 2, 3}, {11, 13, 0, 0, 11}},
+    {0, 4, 2, 0, 0}, {0, 0, 1, 2, 0}};
+
 /* Tests */
 
 static void test_cases_of_01(void)
@@ -290,6 +319,50 @@ static void test_cases_of_01(void)
     f = first;
     f.places[0] = 1;
     refuses(name, 10, about(&f), 10, 2, 4);
+}
+
+static void test_any_order(void)
+{
+    static const char name[] = "any order";
+    static const struct {
+        uint16_t places[5], labels[5];
+        uint32_t number, place;
+    } refused[] = {{{1, 0, 2, 4, 4}, {0, 0, 0, 1, 1}, 11, 4},
+                   {{1, 0, 2, 3, 4}, {0, 0, 0, 2, 2}, 10, 1},
+                   {{1, 0, 2, 4, 3}, {0, 0, 0, 2, 2}, 10, 3},
+                   {{1, 0, 3, 4, 4}, {0, 0, 0, 1, 2}, 9, 2},
+                   {{1, 0, 2, 5, 4}, {0, 0, 0, 1, 0}, 8, 3}};
+    struct family f = second_upward;
+    struct question *q = about_on(&upward, &f);
+    accepts(name, 1, q, 1, 3);
+    write_rack(q, &release);
+    refuses(name, 2, q, 18, 1, 0);
+    accepts(name, 3, about_on(&middle, &fifth_middle), 1, 1);
+    f.labels[3] = 2;
+    accepts(name, 4, about_on(&upward, &f), 2, 5);
+    for (size_t i = 0; i < sizeof refused / sizeof refused[0]; i++) {
+        memcpy(f.places, refused[i].places, sizeof refused[i].places);
+        memcpy(f.labels, refused[i].labels, sizeof refused[i].labels);
+        refuses(name, 5 + i, about_on(&upward, &f), refused[i].number, 2,
+                refused[i].place);
+    }
+}
+
+/* The largest trees with the root as their last node: every gene leaf is of the
+ * deepest species leaf, now node 0, and every inner node is there too. */
+static void test_largest_upward(void)
+{
+    static struct family f;
+    static struct tree species;
+    make_largest_release(&species);
+    make_caterpillar(&f, 2047, 72046, 0);
+    turn_round(species.parents, species.taxa, 2047);
+    turn_round(f.genes.parents, f.genes.taxa, 2047);
+    for (size_t i = 0; i < 2047; i++)
+        f.labels[i] = f.genes.taxa[i] == 0 ? 2 : 0;
+    accepts("largest, upward", 0, about_on(&species, &f), 1023, 0);
+    f.genes.parents[2044] = 0;
+    refuses("largest, upward and round", 0, about_on(&species, &f), 38, 2, 0);
 }
 
 static void test_block_counts(void)
@@ -318,10 +391,7 @@ static void test_largest(void)
     static struct family f;
     static struct tree species;
     static struct question q;
-    make_caterpillar(&f, 2047, 1, 0);
-    species = f.genes;
-    for (size_t i = 0; i < 2047; i++)
-        species.taxa[i] = species.taxa[i] == 0 ? 0 : (uint32_t)(70000 + i);
+    make_largest_release(&species);
     make_caterpillar(&f, 2047, 72046, 2046);
     write_rack(&q, &species);
     write_image(&q.image, &species, &f);
@@ -509,9 +579,15 @@ static void test_unsound_rack(void)
         struct tree rack;
         uint32_t number, place;
     } cases[] = {
-        {{1, {0}, {11}}, 2, 0},
-        {{3, {65535, 0, 2}, {0, 11, 12}}, 2, 2},
+        {{1, {0}, {11}}, 2, 65535},
+        {{1, {5}, {11}}, 2, 0},
+        {{3, {1, 2, 0}, {0, 11, 12}}, 2, 65535},
         {{3, {65535, 65535, 0}, {0, 11, 12}}, 2, 1},
+        {{3, {2, 2, 3}, {11, 12, 0}}, 2, 2},
+        {{3, {65535, 0, 2}, {0, 11, 12}}, 38, 2},
+        {{3, {65535, 2, 1}, {0, 11, 12}}, 38, 1},
+        /* a node below two that go round, and before them */
+        {{5, {1, 2, 1, 65535, 3}, {11, 0, 0, 0, 12}}, 38, 0},
         {{2, {65535, 0}, {0, 11}}, 3, 0},
         {{4, {65535, 0, 0, 0}, {0, 11, 12, 13}}, 3, 0},
         {{3, {65535, 0, 0}, {0, 0, 12}}, 4, 1},
@@ -521,6 +597,10 @@ static void test_unsound_rack(void)
         {{5, {65535, 0, 1, 1, 0}, {0, 0, 7, 8, 7}}, 5, 4},
         /* several faults: the lower number, wherever it is */
         {{5, {65535, 0, 1, 5, 0}, {1, 0, 7, 7, 7}}, 2, 3},
+        {{5, {1, 0, 65535, 9, 65535}, {1, 0, 7, 7, 7}}, 2, 3},
+        {{5, {1, 0, 65535, 65535, 9}, {1, 0, 7, 7, 7}}, 2, 3},
+        {{4, {1, 0, 3, 3}, {1, 0, 7, 7}}, 2, 65535},
+        {{5, {65535, 0, 0, 0, 4}, {1, 0, 7, 7, 7}}, 38, 4},
         {{6, {65535, 0, 1, 1, 0, 4}, {1, 0, 7, 7, 7, 7}}, 3, 4},
     };
     static struct question q;
@@ -559,8 +639,13 @@ static void test_gene_faults(void)
         struct family family;
         uint32_t number, place;
     } cases[] = {
-        {{{3, {0, 0, 0}, {0, 11, 11}}, {2, 2, 2}, {2, 0, 0}}, 2, 0},
-        {{{3, {65535, 0, 2}, {0, 11, 11}}, {2, 2, 2}, {2, 0, 0}}, 2, 2},
+        {{{3, {0, 0, 0}, {0, 11, 11}}, {2, 2, 2}, {2, 0, 0}}, 2, 65535},
+        {{{3, {65535, 0, 3}, {0, 11, 11}}, {2, 2, 2}, {2, 0, 0}}, 2, 2},
+        {{{3, {65535, 0, 65535}, {0, 11, 11}}, {2, 2, 2}, {2, 0, 0}}, 2, 2},
+        {{{3, {65535, 0, 2}, {0, 11, 11}}, {2, 2, 2}, {2, 0, 0}}, 38, 2},
+        {{{3, {1, 0, 65535}, {0, 11, 11}}, {2, 2, 2}, {2, 0, 0}}, 38, 0},
+        {{{5, {2, 2, 1, 65535, 3}, {11, 0, 0, 0, 11}}, {2, 2, 2, 2, 2},
+          {0, 2, 2, 2, 0}}, 38, 0},
         {{{2, {65535, 0}, {0, 11}}, {2, 2}, {2, 0}}, 3, 0},
         {{{4, {65535, 0, 0, 0}, {0, 11, 11, 11}}, {2, 2, 2, 2}, {2, 0, 0, 0}},
          3, 0},
@@ -583,6 +668,8 @@ static void test_gene_faults(void)
         /* several faults: the lower number, wherever it is */
         {{{4, {65535, 0, 0, 7}, {9, 0, 14, 0}}, {9, 9, 9, 9}, {9, 9, 9, 9}},
          2, 3},
+        {{{4, {65535, 0, 0, 3}, {9, 0, 14, 0}}, {9, 9, 9, 9}, {9, 9, 9, 9}},
+         38, 3},
         {{{3, {65535, 0, 0}, {0, 12, 11}}, {2, 2, 2}, {1, 0, 7}}, 8, 2},
     };
     for (size_t i = 0; i < sizeof cases / sizeof cases[0]; i++)
@@ -611,7 +698,7 @@ static void test_random_bytes(unsigned long times)
         if (i % 5 == 0)
             memcpy(q.parents.at, q.image.at, q.parents.length);
         a = ask(&q);
-        if (a.refusal <= 18
+        if ((a.refusal <= 18 || a.refusal == 38)
             && (a.refusal == 0 || (a.duplications == 0 && a.losses == 0))) {
             passed++;
         } else {
@@ -627,8 +714,10 @@ int main(int argc, char **argv)
 {
     unsigned long more = argc > 1 ? strtoul(argv[1], NULL, 10) : 0;
     test_cases_of_01();
+    test_any_order();
     test_block_counts();
     test_largest();
+    test_largest_upward();
     test_damage();
     test_every_value();
     test_lengths();

@@ -23,6 +23,7 @@
 
 #include "fence.h"
 #include "panheron.h"
+#include "turn.h"
 
 enum {
     MOST_ENTRIES = 2100,
@@ -205,6 +206,17 @@ static const struct {
 };
 enum { CASES = sizeof cases / sizeof cases[0] };
 
+/* The small release and 01's second and fifth gene trees, in any order: children
+ * before parents, or the root in the middle. */
+static const struct tree upward = {
+    5, 5, {4, 3, 3, 4, 65535}, {13, 12, 11, 0, 0}};
+static const struct tree middle = {
+    5, 5, {3, 3, 65535, 2, 2}, {11, 12, 0, 0, 13}};
+static const struct tree second_upward = {
+    5, 5, {4, 3, 3, 4, 65535}, {12, 13, 11, 0, 0}};
+static const struct tree fifth_middle = {
+    5, 5, {3, 2, 65535, 2, 3}, {11, 13, 0, 0, 11}};
+
 /* A caterpillar: inner node 2k, k steps below the root, has the leaf 2k + 1 and
  * the inner node 2k + 2; the last of these, 2,046, is a leaf too. */
 static bool is_leaf(size_t node, size_t count)
@@ -235,6 +247,12 @@ static void make_balanced(struct tree *t, size_t count)
 
 typedef void make(struct tree *t, size_t count);
 
+static void make_caterpillar_upward(struct tree *t, size_t count)
+{
+    make_caterpillar(t, count);
+    turn_round(t->parents, t->taxa, count);
+}
+
 /* Tests */
 
 static void test_cases_of_01(void)
@@ -250,6 +268,30 @@ static void test_cases_of_01(void)
             fills("a case of 01", i + 1, &release, &cases[i].genes, room,
                   &cases[i].expected);
         }
+}
+
+static void test_any_order(void)
+{
+    static const struct {
+        const struct tree *species, *genes;
+        struct history expected;
+    } turned[] = {
+        {&release, &second_upward,
+         {{3, 4, 2, 0, 0}, {0, 0, 0, 1, 2}, {1, 3, 1, 5}}},
+        {&upward, &cases[1].genes,
+         {{4, 4, 2, 0, 1}, {2, 1, 0, 0, 0}, {1, 3, 1, 5}}},
+        {&upward, &second_upward,
+         {{1, 0, 2, 4, 4}, {0, 0, 0, 1, 2}, {1, 3, 1, 5}}},
+        {&middle, &second_upward,
+         {{1, 4, 0, 2, 2}, {0, 0, 0, 1, 2}, {1, 3, 1, 5}}},
+        {&middle, &fifth_middle,
+         {{0, 4, 2, 0, 0}, {0, 0, 1, 2, 0}, {1, 1, 1, 3}}},
+        {&upward, &fifth_middle,
+         {{2, 0, 4, 2, 2}, {0, 0, 1, 2, 0}, {1, 1, 1, 3}}},
+    };
+    for (size_t i = 0; i < sizeof turned / sizeof turned[0]; i++)
+        fills("any order", i, turned[i].species, turned[i].genes,
+              exactly(turned[i].genes), &turned[i].expected);
 }
 
 /* Taxa that differ in their higher half alone. */
@@ -294,12 +336,22 @@ static const struct {
     struct tree tree;
     uint32_t number, place;
 } broken[] = {
-    {{1, 1, {0}, {11}}, 2, 0},
+    {{1, 1, {0}, {11}}, 2, 65535},
+    {{1, 1, {1}, {11}}, 2, 0},
     {{1, 1, {65534}, {11}}, 2, 0},
-    {{3, 3, {65535, 0, 2}, {0, 11, 12}}, 2, 2},
+    {{3, 3, {1, 2, 0}, {0, 11, 12}}, 2, 65535},
     {{3, 3, {65535, 65535, 0}, {0, 11, 12}}, 2, 1},
+    {{3, 3, {1, 65535, 65535}, {11, 0, 12}}, 2, 2},
+    {{3, 3, {2, 2, 3}, {11, 12, 0}}, 2, 2},
     {{5, 5, {65535, 0, 1, 1, 5}, {0, 0, 11, 12, 13}}, 2, 4},
+    /* a node that is its own parent, two that go round, and one below them */
+    {{3, 3, {65535, 0, 2}, {0, 11, 12}}, 38, 2},
+    {{3, 3, {0, 2, 65535}, {11, 12, 0}}, 38, 0},
+    {{3, 3, {65535, 2, 1}, {0, 11, 12}}, 38, 1},
+    {{5, 5, {1, 2, 1, 65535, 3}, {11, 0, 0, 0, 12}}, 38, 0},
+    {{7, 7, {65535, 0, 0, 4, 5, 5, 2}, {0, 11, 0, 12, 0, 0, 13}}, 38, 3},
     {{2, 2, {65535, 0}, {0, 11}}, 3, 0},
+    {{4, 4, {3, 0, 3, 65535}, {0, 11, 12, 0}}, 3, 0},
     {{4, 4, {65535, 0, 0, 0}, {0, 11, 12, 13}}, 3, 0},
     {{6, 6, {65535, 0, 0, 0, 0, 0}, {0, 11, 12, 13, 14, 15}}, 3, 0},
     {{6, 6, {65535, 0, 1, 1, 0, 4}, {0, 0, 11, 12, 0, 13}}, 3, 4},
@@ -307,8 +359,13 @@ static const struct {
     {{3, 3, {65535, 0, 0}, {9, 11, 12}}, 4, 0},
     {{5, 5, {65535, 0, 1, 1, 0}, {0, 0, 11, 12, 0}}, 4, 4},
     {{1, 1, {65535}, {0}}, 4, 0},
+    {{3, 3, {2, 2, 65535}, {11, 0, 0}}, 4, 1},
     /* several faults: the lower number, wherever it is */
     {{5, 5, {65535, 0, 1, 5, 0}, {1, 0, 7, 7, 7}}, 2, 3},
+    {{5, 5, {1, 0, 65535, 9, 65535}, {1, 0, 7, 7, 7}}, 2, 3},
+    {{5, 5, {1, 0, 65535, 65535, 9}, {1, 0, 7, 7, 7}}, 2, 3},
+    {{4, 4, {1, 0, 3, 3}, {1, 0, 7, 7}}, 2, 65535},
+    {{5, 5, {65535, 0, 0, 0, 4}, {1, 0, 7, 7, 7}}, 38, 4},
     {{6, 6, {65535, 0, 1, 1, 0, 4}, {1, 0, 7, 7, 7, 7}}, 3, 4},
     {{5, 5, {65535, 0, 1, 1, 0}, {0, 7, 7, 7, 99}}, 4, 1},
 };
@@ -360,6 +417,8 @@ static void test_repeated_taxa(void)
         {{5, 5, {65535, 0, 1, 1, 0}, {0, 0, 7, 7, 7}}, 3},
         {{5, 5, {65535, 0, 1, 1, 0}, {0, 0, 8, 7, 7}}, 4},
         {{7, 7, {65535, 0, 0, 1, 1, 2, 2}, {0, 0, 0, 9, 8, 8, 9}}, 5},
+        {{3, 3, {2, 2, 65535}, {11, 11, 0}}, 1},
+        {{5, 5, {3, 3, 65535, 2, 2}, {7, 8, 0, 0, 7}}, 4},
     };
     for (size_t i = 0; i < sizeof repeats / sizeof repeats[0]; i++) {
         struct refusal expected = {5, 1, repeats[i].place};
@@ -383,6 +442,7 @@ static void test_unknown_taxa(void)
         {{3, 3, {65535, 0, 0}, {0, 720896, 11}}, 1},
         {{3, 3, {65535, 0, 0}, {0, 11, 4294967295}}, 2},
         {{5, 5, {65535, 0, 1, 1, 0}, {0, 0, 12, 10, 1}}, 3},
+        {{3, 3, {2, 2, 65535}, {14, 15, 0}}, 0},
     };
     static const struct room none;
     for (size_t i = 0; i < sizeof unknown / sizeof unknown[0]; i++) {
@@ -463,6 +523,26 @@ static void test_largest_at_one_leaf(void)
     fills("largest, one leaf", 0, &species, &genes, exactly(&genes), &expected);
 }
 
+/* Numbers one tree the other way round, and what is expected with it. */
+
+static void turn_species_round(void)
+{
+    turn_round(species.parents, species.taxa, species.count);
+    for (size_t i = 0; i < genes.count; i++)
+        expected.places[i] = (uint16_t)(species.count - 1 - expected.places[i]);
+}
+
+static void turn_genes_round(void)
+{
+    static struct history was;
+    was = expected;
+    turn_round(genes.parents, genes.taxa, genes.count);
+    for (size_t i = 0; i < genes.count; i++) {
+        expected.places[i] = was.places[genes.count - 1 - i];
+        expected.labels[i] = was.labels[genes.count - 1 - i];
+    }
+}
+
 /* Leaves the other way round: the two lowest of the gene tree, 2,045 and 2,046,
  * are of the two uppermost species leaves, 3 and 1, and meet at the root, a
  * speciation.  All the other inner nodes are at the root with a child, and their
@@ -481,6 +561,32 @@ static void test_largest_climb(void)
     }
     set_counts(1022, 524797, 1, 524799);
     fills("largest, climb", 0, &species, &genes, exactly(&genes), &expected);
+    turn_species_round();
+    fills("largest, climb, species upward", 0, &species, &genes,
+          exactly(&genes), &expected);
+    turn_genes_round();
+    fills("largest, climb, both upward", 0, &species, &genes, exactly(&genes),
+          &expected);
+    turn_species_round();
+    fills("largest, climb, genes upward", 0, &species, &genes, exactly(&genes),
+          &expected);
+}
+
+/* A caterpillar in which a node hangs below the last one, 2,046, which it is
+ * above: all from that node on are lost.  Upward the last node is the first. */
+static void test_largest_round(void)
+{
+    static const uint32_t nodes[] = {2, 4, 1000, 2044, 2046};
+    make_caterpillar(&species, LARGEST);
+    for (size_t i = 0; i < sizeof nodes / sizeof nodes[0]; i++) {
+        genes = species;
+        genes.parents[nodes[i]] = 2046;
+        refuses("largest, round", i, &species, &genes, exactly(&genes),
+                (struct refusal){38, 2, nodes[i]});
+        turn_round(genes.parents, genes.taxa, genes.count);
+        refuses("largest, round and upward", i, &genes, &species,
+                exactly(&species), (struct refusal){38, 1, 0});
+    }
 }
 
 /* Faults at some of the 1,024 leaves. */
@@ -532,6 +638,7 @@ int main(void)
     /* what failed is shown even if a later call steps on a fence */
     setvbuf(stdout, NULL, _IOLBF, 0);
     test_cases_of_01();
+    test_any_order();
     test_high_taxa();
     test_short_room();
     test_broken_trees();
@@ -541,8 +648,10 @@ int main(void)
     test_sizes();
     test_largest_alike(make_caterpillar);
     test_largest_alike(make_balanced);
+    test_largest_alike(make_caterpillar_upward);
     test_largest_at_one_leaf();
     test_largest_climb();
+    test_largest_round();
     test_largest_faults(make_caterpillar);
     test_largest_faults(make_balanced);
     test_largest_counts();

@@ -60,6 +60,11 @@ expect "all images" 1 report.txt /dev/null
 status=$?
 expect "good images" 0 good.txt /dev/null
 
+# the same release numbered the other way round, with images of its own
+"$@" parents-turned taxa-turned turned-* >../out 2>../err
+status=$?
+expect "a release in any order" 0 turned.txt /dev/null
+
 "$@" parents taxa missing >../out 2>../err
 status=$?
 cat >../report <<'END'
@@ -89,9 +94,18 @@ for table in parents-short parents-odd parents-empty; do
     bytes=$(($(wc -c <"$table")))
     expect_unusable "$table" "rackcheck: the release itself: refused 1 1 0: $bytes bytes of parents and 124 of taxa are not 2 and 4 for each of 1 to 2047 species nodes; no image was judged"
 done
-"$@" parents-disordered taxa good-* >../out 2>../err
+"$@" parents-outside taxa good-* >../out 2>../err
 status=$?
-expect_unusable "parents out of order" "rackcheck: the release itself: refused 2 1 3: the parent of species node 3 is out of order: node 0 has 65535, every other node a lower one; no image was judged"
+expect_unusable "a parent that is no node" "rackcheck: the release itself: refused 2 1 3: the parent of species node 3 is no node of the tree, or a second root's 65535; no image was judged"
+"$@" parents-two-roots taxa good-* >../out 2>../err
+status=$?
+expect_unusable "two roots" "rackcheck: the release itself: refused 2 1 30: the parent of species node 30 is no node of the tree, or a second root's 65535; no image was judged"
+"$@" parents-rootless taxa good-* >../out 2>../err
+status=$?
+expect_unusable "no root" "rackcheck: the release itself: refused 2 1 65535: the species tree has no root: no parent is 65535; no image was judged"
+"$@" parents-round taxa good-* >../out 2>../err
+status=$?
+expect_unusable "a node that is its own parent" "rackcheck: the release itself: refused 38 1 0: going up from species node 0 never leads to the root; no image was judged"
 "$@" parents taxa-repeated good-* >../out 2>../err
 status=$?
 expect_unusable "a repeated taxon" "rackcheck: the release itself: refused 5 1 30: species node 30 repeats the taxon of a leaf before it; no image was judged"

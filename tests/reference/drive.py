@@ -5,8 +5,11 @@
 It makes N requests and M texts from the seed, feeds the requests to the
 replay command in runs of at most about 900 KiB and each text to a run of the
 history command, and compares every printed number and every lent entry with
-what the reference answers.  It stops at the first few differences and prints
-each with the request, what was expected and what came.
+what the reference answers.  It also makes pairs of trees, asks the replay
+command about each pair and about the same pair with its nodes numbered anew,
+and compares these answers with one another (renumberings.py).  It stops at the
+first few differences and prints each with the request, what was expected and
+what came.
 
 With --fresh the seed makes one half of each kind, always the same, and a seed
 that is drawn anew makes the other half.  Both are printed, and --fresh NUMBER
@@ -14,9 +17,11 @@ takes a drawn seed again.
 
 At the end it prints how often each refusal number occurred.  The exit status
 is 0 if everything agreed, 1 after a difference, and 2 if nothing differed but
---all-numbers was given and some number from 1 to 20 never occurred.
+--all-numbers was given and some number never occurred: one of 1 to 20 and 38
+at all, or 38 in one of the calls and of the trees that can have it.
 
-With each difference it prints how to make that request or text again alone.
+With each difference it prints how to make that request, text or pair again
+alone.
 """
 
 import argparse
@@ -33,13 +38,21 @@ from concurrent.futures import FIRST_COMPLETED, ProcessPoolExecutor, wait
 import generate
 import panheron_reference as reference
 import protocol
+import renumberings
 
 MOST_RUN_BYTES = 900 * 1024
 REQUESTS_IN_TASK = 400
 LARGE_IN_TASK = 2
 TEXTS_IN_TASK = 20
+PAIRS_IN_TASK = renumberings.LARGE_EVERY
 LONGEST_SHOWN = 3000
-ALL_NUMBERS = range(1, 21)
+ALL_NUMBERS = (*range(1, 21), 38)
+# A node that never reaches the root is to occur in every tree that is judged.
+NEVER_REACHES = 38
+JUDGED = [("code 1", reference.SPECIES)] + [
+    (source, tree)
+    for source in (*("code %d" % code for code in range(2, 9)), "history")
+    for tree in (reference.SPECIES, reference.GENE)]
 
 # What one worker does at a time: a maker from MAKERS, and which of its things.
 Task = namedtuple("Task", "maker command seed first count timeout")
@@ -61,18 +74,18 @@ Prepared = namedtuple("Prepared", "index request text answer")
 
 class Report:
     """What was found: how many answers agreed, how often each (refusal
-    number, source) occurred among them, and the differences."""
+    number, source, tree) occurred among them, and the differences."""
 
     def __init__(self):
         self.agreed = 0
         self.occurred = Counter()
         self.differences = []
 
-    def note(self, refusal, source):
+    def note(self, refusal, source, tree):
         """Notes an answer that agreed."""
         self.agreed += 1
         if refusal:
-            self.occurred[refusal, source] += 1
+            self.occurred[refusal, source, tree] += 1
 
 
 # Running a program
@@ -162,7 +175,8 @@ def compare_run(task, run, outcome, report):
                 task.maker, task, one, expected, came, outcome.trouble))
             return
         at += len(expected)
-        report.note(one.answer.refusal, "code %d" % one.request.code)
+        report.note(one.answer.refusal, "code %d" % one.request.code,
+                    one.answer.tree)
     if at != len(lines) or outcome.trouble:
         report.differences.append(request_difference(
             "after " + task.maker, task, run[-1], ["(the end of the run)"],
@@ -185,8 +199,11 @@ def do_requests(task):
 
 
 def refusal_printed(output):
-    """The refusal number of a printed answer, 0 if there is none."""
-    return int(output.split()[1]) if output.startswith(b"refused ") else 0
+    """The refusal number of a printed answer and its tree, 0 if there is
+    none."""
+    if not output.startswith(b"refused "):
+        return 0, 0
+    return tuple(int(word) for word in output.split()[1:3])
 
 
 def text_difference(task, index, text, expected, outcome):
@@ -208,7 +225,8 @@ def compare_text(task, index, report):
         report.differences.append(
             text_difference(task, index, text, expected, outcome))
         return
-    report.note(refusal_printed(expected), "history")
+    number, tree = refusal_printed(expected)
+    report.note(number, "history", tree)
 
 
 def do_texts(task):
@@ -221,13 +239,81 @@ def do_texts(task):
     return report
 
 
+# Pairs
+
+
+def lines_for(requests, lines):
+    """Takes the lines of each request's answer from all that are left."""
+    return [[next(lines, "(nothing)")
+             for parameter in (None, *protocol.LAYOUT[request.code])
+             if parameter is None or parameter.lent]
+            for request in requests]
+
+
+def carried_lines(code, lines, numbers):
+    """The lines that are expected for the pair numbered anew."""
+    try:
+        return renumberings.carried(code, lines, numbers)
+    except (ValueError, IndexError):
+        return ["(an answer about the pair itself; it was)"] + lines
+
+
+def asked(requests):
+    return "".join(map(protocol.request_text, requests))
+
+
+def compare_pair(task, index, twice, lines, report):
+    """Compares the answers about one pair with those about it anew."""
+    before = lines_for(twice.before, lines)
+    after = lines_for(twice.after, lines)
+    for at, request in enumerate(twice.before):
+        expected = carried_lines(request.code, before[at], twice.numbers)
+        if after[at] != expected:
+            report.differences.append(Difference(
+                "%s %d, code %d" % (task.maker, index, request.code),
+                again(task, index), asked((request, twice.after[at])),
+                "\n".join(expected), "\n".join(after[at])))
+            return
+    report.note(0, task.maker, 0)
+
+
+def compare_pairs(task, pairs, lines, report):
+    """Compares all pairs of a run, up to the first difference, and its end."""
+    for index, twice in pairs.items():
+        compare_pair(task, index, twice, lines, report)
+        if report.differences:
+            return
+    left = list(lines)
+    if left:
+        report.differences.append(Difference(
+            "after %s %d" % (task.maker, index), again(task, index),
+            asked(twice.before + twice.after), "(the end of the run)",
+            "\n".join(left)))
+
+
+def do_pairs(task):
+    """One task of pairs, in one run."""
+    report = Report()
+    pairs = {index: MAKERS[task.maker].make(task.seed, index)
+             for index in range(task.first, task.first + task.count)}
+    data = "".join(asked(twice.before + twice.after)
+                   for twice in pairs.values())
+    outcome = run_program(task.command, data.encode("ascii"), task.timeout)
+    trouble = [outcome.trouble] if outcome.trouble else []
+    compare_pairs(task, pairs, iter(lines_of(outcome.output) + trouble),
+                  report)
+    return report
+
+
 # Tasks
 
 MAKERS = {
     "request": Maker(do_requests, generate.request, REQUESTS_IN_TASK,
-                     "--replay %s --requests 1"),
+                     "--replay %s --requests 1 --pairs 0"),
     "large request": Maker(do_requests, generate.large_request, LARGE_IN_TASK,
-                           "--replay %s --requests 0 --large 1"),
+                           "--replay %s --requests 0 --pairs 0 --large 1"),
+    "pair": Maker(do_pairs, renumberings.pair, PAIRS_IN_TASK,
+                  "--replay %s --requests 0 --pairs 1"),
     "text": Maker(do_texts, generate.text, TEXTS_IN_TASK,
                   "--history %s --texts 1"),
     "large text": Maker(do_texts, generate.large_text, LARGE_IN_TASK,
@@ -261,6 +347,7 @@ def all_tasks(arguments):
     wanted = []
     if arguments.replay:
         wanted += [("large request", arguments.replay, arguments.large),
+                   ("pair", arguments.replay, arguments.pairs),
                    ("request", arguments.replay, arguments.requests)]
     if arguments.history:
         wanted += [("large text", arguments.history, arguments.large),
@@ -286,8 +373,13 @@ class Totals:
         self.differences += report.differences
 
     def missing_numbers(self):
-        seen = {number for number, _ in self.occurred}
-        return [number for number in ALL_NUMBERS if number not in seen]
+        """What never occurred, in words."""
+        seen = {number for number, _, _ in self.occurred}
+        return [str(number) for number in ALL_NUMBERS
+                if number not in seen] + [
+            "%d in tree %d of %s" % (NEVER_REACHES, tree, source)
+            for source, tree in JUDGED
+            if (NEVER_REACHES, source, tree) not in self.occurred]
 
 
 def show_progress(totals):
@@ -390,9 +482,10 @@ def print_occurrences(totals):
     """How often each refusal number occurred, and where."""
     print("refusal  times  where")
     for number in ALL_NUMBERS:
-        sources = {source: times
-                   for (one, source), times in sorted(totals.occurred.items())
-                   if one == number}
+        sources = Counter()
+        for (one, source, _), times in sorted(totals.occurred.items()):
+            if one == number:
+                sources[source] += times
         where = ", ".join("%s %d" % item for item in sources.items())
         print("%7d %6d  %s" % (number, sum(sources.values()), where))
 
@@ -421,6 +514,8 @@ def parse_arguments(given=None):
     parser.add_argument("--texts", type=int, default=300, metavar="M")
     parser.add_argument("--large", type=int, default=0, metavar="K",
                         help="so many requests and texts of 2,047 nodes more")
+    parser.add_argument("--pairs", type=int, default=300, metavar="P",
+                        help="so many pairs of trees, each asked about twice")
     parser.add_argument("--seed", default="1", metavar="S")
     parser.add_argument("--fresh", nargs="?", const=drawn_seed(),
                         metavar="NUMBER",
@@ -434,7 +529,7 @@ def parse_arguments(given=None):
     parser.add_argument("--timeout", type=int, default=600, metavar="SECONDS",
                         help="the longest that one run may take")
     parser.add_argument("--all-numbers", action="store_true",
-                        help="fail if a number from 1 to 20 never occurred")
+                        help="fail if a number never occurred")
     arguments = parser.parse_args(given)
     if not arguments.replay and not arguments.history:
         parser.error("give --replay, --history or both")
@@ -447,7 +542,7 @@ def exit_status(totals, arguments):
         return 1
     missing = totals.missing_numbers()
     if arguments.all_numbers and missing:
-        print("never occurred: %s" % ", ".join(map(str, missing)))
+        print("never occurred: %s" % ", ".join(missing))
         return 2
     return 0
 

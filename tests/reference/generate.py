@@ -93,7 +93,7 @@ def offered_values(rng, large):
     """The four tables and an offered history."""
     pair = trees.sound_pair(rng, large)
     history = histories.offered_history(rng, *images.judged(pair))
-    species, gene = maybe_broken(rng, pair, 0.12)
+    species, gene = maybe_broken(rng, pair, 0.2)
     return [*species, *gene, offered_table(rng, history.places),
             offered_table(rng, history.labels)]
 
@@ -111,19 +111,24 @@ def nodes_by_kind(pair):
     return [kinds[kind] for kind in sorted(kinds)]
 
 
+def draw_known_node(rng, pair):
+    """A gene node, often of a rarer kind."""
+    kinds = nodes_by_kind(pair)
+    return rng.choice(rng.choices(kinds, range(1, len(kinds) + 1))[0])
+
+
 def draw_node(rng, pair):
-    """A gene node, often of a rarer kind, or a number that is too high."""
+    """A gene node, or a number that is too high."""
     q = gene_entries(pair)
     if rng.random() < 0.2:
         return rng.choice((q, q + 1, MOST_16, rng.randint(q, MOST_16)))
-    kinds = nodes_by_kind(pair)
-    return rng.choice(rng.choices(kinds, range(1, len(kinds) + 1))[0])
+    return draw_known_node(rng, pair)
 
 
 def dating_request(rng, large):
     pair = trees.sound_pair(rng, large)
     node = draw_node(rng, pair)
-    species, gene = maybe_broken(rng, pair, 0.12)
+    species, gene = maybe_broken(rng, pair, 0.2)
     return [*species, *gene, node]
 
 
@@ -347,7 +352,7 @@ def tiny_text(rng, pieces):
     return spread(rng, [b"1", b"1", root, taxon, b"65535", other])
 
 
-SOUND_TEXTS = ((plain_text, 6), (spread_text, 4), (zeros_text, 3))
+SOUND_TEXTS = ((plain_text, 15), (spread_text, 8), (zeros_text, 5))
 ODD_TEXTS = ((eleven_digits_text, 1), (too_wide_text, 3),
              (foreign_byte_text, 4), (crlf_text, 1), (missing_text, 2),
              (surplus_text, 2), (bad_count_text, 4), (other_count_text, 2),
@@ -358,7 +363,7 @@ ODD_TEXTS = ((eleven_digits_text, 1), (too_wide_text, 3),
 def text(seed, index):
     """One text."""
     rng = generator_for("text", seed, index)
-    pair = maybe_broken(rng, trees.sound_pair(rng), 0.35)
+    pair = maybe_broken(rng, trees.sound_pair(rng), 0.5)
     pieces = pieces_of(*pair)
     return images.weighted(rng, SOUND_TEXTS + ODD_TEXTS)(rng, pieces)
 

@@ -8,13 +8,15 @@ import panheron_reference as reference
 from panheron_reference import DUPLICATION, LEAF, SPECIATION, History
 
 
-def line_up(species, node, top):
+def line_between(species, node, top):
     """The nodes from `node` up to `top`, both included."""
-    line = [node]
-    while node != top:
-        node = species.parents[node]
-        line.append(node)
-    return line
+    line = species.lines[node]
+    return line[:line.index(top) + 1]
+
+
+def parents_first(gene):
+    """The inner nodes, each after those above it."""
+    return sorted(gene.inner_nodes(), key=lambda node: len(gene.lines[node]))
 
 
 def copied(history):
@@ -49,8 +51,8 @@ class Lifting:
 
     def ceiling(self, node):
         """The highest place that the node may take."""
-        if node == 0:
-            return 0
+        if node == self.gene.root:
+            return self.species.root
         parent = self.gene.parents[node]
         place = self.drawn.places[parent]
         if self.drawn.labels[parent] == SPECIATION:
@@ -59,8 +61,8 @@ class Lifting:
 
     def lift(self, node):
         """Draws the place and the label of one inner node."""
-        line = line_up(self.species, self.least.places[node],
-                       self.ceiling(node))
+        line = line_between(self.species, self.least.places[node],
+                            self.ceiling(node))
         if self.rng.random() < self.eager:
             self.drawn.places[node] = self.rng.choice(line)
             self.drawn.labels[node] = DUPLICATION
@@ -69,7 +71,7 @@ class Lifting:
             self.drawn.labels[node] = self.least.labels[node]
 
     def run(self):
-        for node in self.gene.inner_nodes():
+        for node in parents_first(self.gene):
             self.lift(node)
         return self.drawn
 
@@ -102,14 +104,14 @@ def misplaced_leaf(rng, species, gene, history):
     """A leaf at its species' parent, at any other node or at the root."""
     leaf = rng.choice(gene.leaves())
     place = species.leaf_of_taxon[gene.taxa[leaf]]
-    above = species.parents[place] if place else 0
     history.places[leaf] = rng.choice(
-        (above, 0, rng.randrange(species.count), rng.choice(species.leaves())))
+        (species.lines[place][:2][-1], species.root,
+         rng.randrange(species.count), rng.choice(species.leaves())))
 
 
 def child_elsewhere(rng, species, gene, history):
     """An inner child at a place that is not under its parent's."""
-    inner = gene.inner_nodes()[1:]
+    inner = [node for node in gene.inner_nodes() if node != gene.root]
     if inner:
         child = rng.choice(inner)
         top = history.places[gene.parents[child]]
@@ -148,18 +150,18 @@ def lifted_speciation(rng, species, gene, history):
     if not inner:
         return
     node = rng.choice(inner)
-    if not 0 < history.places[node] < species.count:
+    place = history.places[node]
+    if place >= species.count or place == species.root:
         return
     history.labels[node] = SPECIATION
-    goal = species.parents[history.places[node]]
+    goal = species.parents[place]
     history.places[node] = goal
-    while node != 0:
-        node = gene.parents[node]
-        if history.places[node] >= species.count:
+    for above in gene.lines[node][1:]:
+        if history.places[above] >= species.count:
             return
-        if not species.at_or_below(goal, history.places[node]):
-            history.places[node] = goal
-            history.labels[node] = DUPLICATION
+        if not species.at_or_below(goal, history.places[above]):
+            history.places[above] = goal
+            history.labels[above] = DUPLICATION
 
 
 FAULTS = {8: (bad_place, bad_label),

@@ -252,7 +252,7 @@ def unsound_rack(rng, case):
 
 
 def unsound_gene(rng, large=False):
-    """An image whose gene tree breaks 2, 3, 4 or 6, or several."""
+    """An image whose gene tree breaks 2, 38, 3, 4 or 6, or several."""
     species, gene = judged(draw_pair(rng, large))
     tables = trees.Tables(gene.parents, gene.taxa)
     faults = {number: fault for number, fault in trees.GENE_FAULTS.items()

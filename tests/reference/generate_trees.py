@@ -1,19 +1,21 @@
 """Random trees: sound species and gene tables, and every way to break them.
 
 A tree is a pair of lists, `Tables(parents, taxa)`.  Sound trees are drawn in
-three steps: a shape, a numbering in which parents come first, and taxa.  The
-faults of refusals 1 to 6 change such tables in place.
+three steps: a shape, a numbering (parents first, children first or any), and
+taxa.  The faults of refusals 1 to 6 and 38 change such tables in place.
 """
 
 from collections import namedtuple
 
-from panheron_reference import MOST_16, MOST_32, MOST_NODES, NO_PARENT
+from panheron_reference import (
+    MOST_16, MOST_32, MOST_NODES, NO_PARENT, children_of)
 from protocol import MOST_ENTRIES
 
 Tables = namedtuple("Tables", "parents taxa")
 
 SHAPES = ("balanced", "uneven", "grown", "caterpillar")
 ORDERS = ("any", "any", "deep", "wide")
+TURNS = ("kept", "kept", "reversed", "shuffled", "shuffled")
 MOST_LEAVES = (MOST_NODES + 1) // 2
 
 
@@ -69,7 +71,7 @@ def random_shape(rng, leaves):
     return split_shape(rng, leaves, kind)
 
 
-# Numberings in which every parent comes before its children
+# Numberings: the shape's nodes in the order of their numbers
 
 
 def next_from(rng, open_nodes, order):
@@ -82,20 +84,44 @@ def next_from(rng, open_nodes, order):
     return open_nodes.pop()
 
 
-def numbered(rng, children):
-    """Numbers a shape: the parents table, and the shape's nodes in order."""
+def parents_first(rng, children):
+    """The nodes of a shape, every parent before its children."""
     order = rng.choice(ORDERS)
-    parents, nodes = [], []
-    parent_number = {0: NO_PARENT}
-    open_nodes = [0]
+    nodes, open_nodes = [], [0]
     while open_nodes:
         node = next_from(rng, open_nodes, order)
-        for child in children[node]:
-            parent_number[child] = len(nodes)
-        parents.append(parent_number[node])
         nodes.append(node)
         open_nodes += rng.sample(children[node], len(children[node]))
+    return nodes
+
+
+def turned(rng, nodes):
+    """The nodes in this order, the other way round, or in any."""
+    turn = rng.choice(TURNS)
+    if turn == "reversed":
+        return nodes[::-1]
+    return rng.sample(nodes, len(nodes)) if turn == "shuffled" else nodes
+
+
+def numbered(rng, children):
+    """Numbers a shape: the parents table, and the shape's nodes in order."""
+    nodes = turned(rng, parents_first(rng, children))
+    number = {node: place for place, node in enumerate(nodes)}
+    parents = [NO_PARENT] * len(nodes)
+    for node, pair in enumerate(children):
+        for child in pair:
+            parents[number[child]] = number[node]
     return parents, nodes
+
+
+def renumbered(tables, numbers):
+    """The same tree; `numbers` has each node's new number."""
+    parents, taxa = list(tables.parents), list(tables.taxa)
+    for node, number in enumerate(numbers):
+        parent = tables.parents[node]
+        parents[number] = NO_PARENT if parent == NO_PARENT else numbers[parent]
+        taxa[number] = tables.taxa[node]
+    return Tables(parents, taxa)
 
 
 # Sizes and taxa
@@ -162,7 +188,7 @@ class Evolution:
         self.rng = rng
         self.species = species
         self.room = most_leaves - 1
-        self.below = children_table(species.parents)
+        self.below = children_of(species.parents)
         self.children = [()]
         self.taxon_of = {}
         self.waiting = [(0, self.start())]
@@ -171,7 +197,7 @@ class Evolution:
 
     def start(self):
         if self.rng.random() < 0.7:
-            return 0
+            return self.species.parents.index(NO_PARENT)
         return self.rng.randrange(len(self.species.parents))
 
     def split(self, node, places):
@@ -202,17 +228,10 @@ class Evolution:
         return Tables(parents, [self.taxon_of.get(node, 0) for node in nodes])
 
 
-def children_table(parents):
-    """For each node of a sound table the list of its children."""
-    children = [[] for _ in parents]
-    for node, parent in enumerate(parents[1:], 1):
-        children[parent].append(node)
-    return children
-
-
 def species_like_gene(rng, species):
-    """The species tree itself, now and then with two taxa exchanged."""
-    gene = copied(species)
+    """The species tree itself, numbered anew, now and then with two taxa
+    exchanged."""
+    gene = renumbered(species, turned(rng, list(range(len(species.parents)))))
     leaves = [node for node, taxon in enumerate(gene.taxa) if taxon]
     if len(leaves) > 1 and rng.random() < 0.7:
         one, other = rng.sample(leaves, 2)
@@ -278,21 +297,64 @@ def wrong_size(rng, tables):
     fault(rng, tables)
 
 
-def wrong_first_entry(rng, tables):
-    if tables.parents:
-        tables.parents[0] = rng.choice((0, 1, 65534, rng.randint(0, 65534)))
+def below_another(tables):
+    """The nodes that are no roots."""
+    return [node for node, parent in enumerate(tables.parents)
+            if parent != NO_PARENT]
 
 
-def wrong_later_entry(rng, tables):
-    if len(tables.parents) > 1:
-        node = rng.randrange(1, len(tables.parents))
-        tables.parents[node] = rng.choice(
-            (NO_PARENT, NO_PARENT, node, node + 1, len(tables.parents),
-             rng.randint(node, MOST_16)))
+def wrong_parent(rng, tables):
+    """A parent that is not under n."""
+    count = len(tables.parents)
+    if count:
+        tables.parents[rng.randrange(count)] = rng.choice(
+            (count, count + 1, 65534, rng.randint(count, 65534)))
 
 
-def wrong_order(rng, tables):
-    rng.choice((wrong_first_entry, wrong_later_entry))(rng, tables)
+def second_root(rng, tables):
+    nodes = below_another(tables)
+    if nodes:
+        tables.parents[rng.choice(nodes)] = NO_PARENT
+
+
+def no_root(rng, tables):
+    count = len(tables.parents)
+    tables.parents[:] = [rng.randrange(count) if parent == NO_PARENT
+                         else parent for parent in tables.parents]
+
+
+def wrong_root_or_parent(rng, tables):
+    rng.choice((wrong_parent, second_root, no_root))(rng, tables)
+
+
+def walk_up(parents, node):
+    """The node and what is above it, as far as one can walk: broken tables
+    lead out of the tree or round."""
+    line = []
+    while node < len(parents) and len(line) < len(parents):
+        line.append(node)
+        node = parents[node]
+    return line
+
+
+def circle(rng, tables):
+    """A node gets a parent below itself: what stands between them goes round,
+    and what hangs there never reaches the root either."""
+    nodes = below_another(tables)
+    if nodes:
+        line = walk_up(tables.parents, rng.choice(nodes))
+        tables.parents[rng.choice(line[:-1] or line)] = line[0]
+
+
+def own_parent(rng, tables):
+    nodes = below_another(tables)
+    if nodes:
+        node = rng.choice(nodes)
+        tables.parents[node] = node
+
+
+def cut_off(rng, tables):
+    rng.choice((circle, circle, own_parent))(rng, tables)
 
 
 def append_leaf(rng, tables, parent):
@@ -300,11 +362,14 @@ def append_leaf(rng, tables, parent):
     tables.taxa.append(rng.choice(leaf_taxa(tables) or [1]))
 
 
-def only_child(rng, tables):
+def childless(tables):
     parents = set(tables.parents)
-    leaves = [node for node in range(len(tables.parents))
-              if node not in parents]
-    append_leaf(rng, tables, rng.choice(leaves or [0]))
+    return [node for node in range(len(tables.parents))
+            if node not in parents]
+
+
+def only_child(rng, tables):
+    append_leaf(rng, tables, rng.choice(childless(tables) or [0]))
 
 
 def third_child(rng, tables):
@@ -313,15 +378,23 @@ def third_child(rng, tables):
 
 
 def lost_leaf(rng, tables):
-    if len(tables.parents) > 1 and len(tables.taxa) > 1:
-        tables.parents.pop()
-        tables.taxa.pop()
+    """A leaf is taken out; the nodes after it get the number before theirs."""
+    leaves = childless(tables)
+    if leaves and len(tables.parents) > 1 and len(tables.taxa) > 1:
+        leaf = rng.choice(leaves)
+        del tables.parents[leaf], tables.taxa[leaf:leaf + 1]
+        tables.parents[:] = [parent - 1 if leaf < parent < NO_PARENT
+                             else parent for parent in tables.parents]
 
 
 def moved_child(rng, tables):
-    if len(tables.parents) > 2:
-        node = rng.randrange(2, len(tables.parents))
-        tables.parents[node] = rng.randrange(node)
+    """A child goes to another parent, but to none below itself."""
+    nodes = below_another(tables)
+    if nodes:
+        node = rng.choice(nodes)
+        parent = rng.randrange(len(tables.parents))
+        if node not in walk_up(tables.parents, parent):
+            tables.parents[node] = parent
 
 
 def wrong_shape(rng, tables):
@@ -356,11 +429,11 @@ def unknown_taxon(rng, tables):
              (taxon >> 16 | taxon << 16) & MOST_32, MOST_32)) or 1
 
 
-SPECIES_FAULTS = {1: wrong_size, 2: wrong_order, 3: wrong_shape,
-                  4: wrong_kind_of_taxon, 5: repeated_taxon}
-GENE_FAULTS = {1: wrong_size, 2: wrong_order, 3: wrong_shape,
-               4: wrong_kind_of_taxon, 6: unknown_taxon}
-FAULT_WEIGHTS = {1: 2, 2: 2, 3: 3, 4: 3, 5: 6, 6: 6}
+SPECIES_FAULTS = {1: wrong_size, 2: wrong_root_or_parent, 38: cut_off,
+                  3: wrong_shape, 4: wrong_kind_of_taxon, 5: repeated_taxon}
+GENE_FAULTS = {1: wrong_size, 2: wrong_root_or_parent, 38: cut_off,
+               3: wrong_shape, 4: wrong_kind_of_taxon, 6: unknown_taxon}
+FAULT_WEIGHTS = {1: 2, 2: 4, 38: 5, 3: 4, 4: 3, 5: 6, 6: 6}
 
 
 def draw_fault_count(rng):

@@ -1,12 +1,14 @@
-"""The reference model of Panheron, written from the scope paper (01) alone.
+"""The reference model of Panheron, written from the scope paper (01) and
+request W8 of the paper of changes (02) alone.
 
 It holds every call of the base: judging species and gene tables, the least
 history, judging an offered history, dating, writing and loading the stored
 image of form 1, the host's numbers, and the text program `history`.
 
-It is meant to be read next to the paper.  Nothing here is clever: M(g) is
+It is meant to be read next to the papers.  Nothing here is clever: M(g) is
 found by sets of taxa (Python numbers used as bit sets), never by climbing, and
-every refusal is looked for in the order in which the paper lists it.
+every refusal is looked for in the order in which the papers list it.  Nodes
+may be numbered in any order: what is above a node is found by walking up.
 
 A refused call raises `Refusal`.  Lent tables are Python lists (or byte arrays)
 that a call changes in place, exactly as far as the paper allows.
@@ -27,6 +29,7 @@ WORDS_IN_BLOCK = 253
 MOST_BLOCKS = 65
 FORM = 1
 COUNTS_DIFFER = 65535
+NO_ROOT = 65535
 
 MOST_TEXT_BYTES = 49152
 MOST_16 = 2 ** 16 - 1
@@ -70,26 +73,19 @@ def refuse_lowest(number, tree, faulty):
 def children_of(parents):
     """For each node the list of its children, the lower number first."""
     children = [[] for _ in parents]
-    for node in range(1, len(parents)):
-        children[parents[node]].append(node)
+    for node, parent in enumerate(parents):
+        if parent != NO_PARENT:
+            children[parent].append(node)
     return children
 
 
-def depths_of(parents):
-    """For each node the number of steps up to the root."""
-    depths = [0] * len(parents)
-    for node in range(1, len(parents)):
-        depths[node] = depths[parents[node]] + 1
-    return depths
-
-
-def sets_below(children, own):
-    """For each node the union of the sets of itself and all nodes below it."""
-    sets = list(own)
-    for node in reversed(range(len(children))):
-        for child in children[node]:
-            sets[node] |= sets[child]
-    return sets
+def line_up(parents, node):
+    """The node and all above it, from below."""
+    line = [node]
+    while parents[node] != NO_PARENT:
+        node = parents[node]
+        line.append(node)
+    return line
 
 
 class Tree:
@@ -99,7 +95,10 @@ class Tree:
         self.parents = list(parents)
         self.taxa = list(taxa)
         self.count = len(self.parents)
+        self.root = self.parents.index(NO_PARENT)
         self.children = children_of(self.parents)
+        self.lines = [line_up(self.parents, node)
+                      for node in range(self.count)]
 
     def is_leaf(self, node):
         return not self.children[node]
@@ -112,9 +111,11 @@ class Tree:
 
     def taxa_below(self, bit_of_taxon):
         """For each node the set of the taxa of the leaves at or below it."""
-        own = [bit_of_taxon[self.taxa[node]] if self.is_leaf(node) else 0
-               for node in range(self.count)]
-        return sets_below(self.children, own)
+        sets = [0] * self.count
+        for leaf in self.leaves():
+            for node in self.lines[leaf]:
+                sets[node] |= bit_of_taxon[self.taxa[leaf]]
+        return sets
 
 
 class SpeciesTree(Tree):
@@ -122,13 +123,11 @@ class SpeciesTree(Tree):
 
     def __init__(self, parents, taxa):
         super().__init__(parents, taxa)
-        self.depths = depths_of(self.parents)
+        self.depths = [len(line) - 1 for line in self.lines]
         self.leaf_of_taxon = {self.taxa[leaf]: leaf for leaf in self.leaves()}
         self.bit_of_taxon = {self.taxa[leaf]: 1 << k
                              for k, leaf in enumerate(self.leaves())}
         self.held_taxa = self.taxa_below(self.bit_of_taxon)
-        self.held_nodes = sets_below(
-            self.children, [1 << node for node in range(self.count)])
         self.smallest_first = sorted(
             range(self.count),
             key=lambda node: bin(self.held_taxa[node]).count("1"))
@@ -146,10 +145,10 @@ class SpeciesTree(Tree):
 
     def at_or_below(self, lower, upper):
         """Whether `lower` is `upper` or stands somewhere below it."""
-        return bool(self.held_nodes[upper] >> lower & 1)
+        return upper in self.lines[lower]
 
 
-# Judging tables: refusals 1 to 6
+# Judging tables: refusals 1, 2, 38 and 3 to 6
 
 
 def judge_size(tree, parents, taxa):
@@ -160,15 +159,39 @@ def judge_size(tree, parents, taxa):
         raise Refusal(1, tree, 0)
 
 
-def parent_in_order(node, parent):
-    """Entry 0 is 65,535; entry i, for i above 0, is less than i."""
-    return parent == NO_PARENT if node == 0 else parent < node
+def wrong_parents(parents):
+    """The nodes with a parent not under n, and the roots after the first."""
+    roots = 0
+    for node, parent in enumerate(parents):
+        if parent == NO_PARENT:
+            roots += 1
+            if roots > 1:
+                yield node
+        elif parent >= len(parents):
+            yield node
 
 
 def judge_parents(tree, parents):
-    """Refusal 2: a parent entry that breaks the order."""
-    refuse_lowest(2, tree, (node for node, parent in enumerate(parents)
-                            if not parent_in_order(node, parent)))
+    """Refusal 2: a parent not under n or a second root, else no root."""
+    refuse_lowest(2, tree, wrong_parents(parents))
+    if NO_PARENT not in parents:
+        raise Refusal(2, tree, NO_ROOT)
+
+
+def reaches_root(parents, node):
+    """Whether walking up from the node comes to the root.  A walk that visits
+    no node twice has visited all after n nodes."""
+    for _ in parents:
+        if parents[node] == NO_PARENT:
+            return True
+        node = parents[node]
+    return False
+
+
+def judge_reach(tree, parents):
+    """Refusal 38: a node that never reaches the root."""
+    refuse_lowest(38, tree, (node for node in range(len(parents))
+                             if not reaches_root(parents, node)))
 
 
 def judge_children(tree, parents):
@@ -185,9 +208,10 @@ def judge_taxa(tree, parents, taxa):
                             if (taxa[node] == 0) != bool(children)))
 
 
-def judge_order_shape_taxa(tree, parents, taxa):
-    """Refusals 2, 3 and 4, each over the whole table before the next."""
+def judge_shape_and_taxa(tree, parents, taxa):
+    """Refusals 2, 38, 3 and 4, each over the whole table before the next."""
     judge_parents(tree, parents)
+    judge_reach(tree, parents)
     judge_children(tree, parents)
     judge_taxa(tree, parents, taxa)
 
@@ -202,16 +226,18 @@ def repeated_leaves(tree):
 
 
 def judge_species(parents, taxa):
-    """Refusals 1 to 5 of a species tree; gives the tree if it is sound."""
+    """Refusals 1, 2, 38, 3, 4 and 5 of a species tree; gives the tree if it is
+    sound."""
     judge_size(SPECIES, parents, taxa)
-    judge_order_shape_taxa(SPECIES, parents, taxa)
+    judge_shape_and_taxa(SPECIES, parents, taxa)
     refuse_lowest(5, SPECIES, repeated_leaves(Tree(parents, taxa)))
     return SpeciesTree(parents, taxa)
 
 
 def judge_gene_entries(parents, taxa, species):
-    """Refusals 2, 3, 4 and 6 of a gene tree; gives the tree if it is sound."""
-    judge_order_shape_taxa(GENE, parents, taxa)
+    """Refusals 2, 38, 3, 4 and 6 of a gene tree; gives the tree if it is
+    sound."""
+    judge_shape_and_taxa(GENE, parents, taxa)
     gene = Tree(parents, taxa)
     refuse_lowest(6, GENE, (leaf for leaf in gene.leaves()
                             if gene.taxa[leaf] not in species.leaf_of_taxon))
@@ -219,13 +245,14 @@ def judge_gene_entries(parents, taxa, species):
 
 
 def judge_gene(parents, taxa, species):
-    """Refusals 1, 2, 3, 4 and 6 of a gene tree."""
+    """Refusals 1, 2, 38, 3, 4 and 6 of a gene tree."""
     judge_size(GENE, parents, taxa)
     return judge_gene_entries(parents, taxa, species)
 
 
 def judge_pair(species_parents, species_taxa, gene_parents, gene_taxa):
-    """Species 1 to 5, then gene 1, 2, 3, 4, 6; gives both trees."""
+    """Species 1, 2, 38, 3, 4, 5, then gene 1, 2, 38, 3, 4, 6; gives both
+    trees."""
     species = judge_species(species_parents, species_taxa)
     return species, judge_gene(gene_parents, gene_taxa, species)
 
@@ -345,9 +372,10 @@ def judge_history(species, gene, places, labels):
         leaf for leaf in gene.leaves()
         if places[leaf] != species.leaf_of_taxon[gene.taxa[leaf]]))
     refuse_lowest(10, GENE, (
-        child for child in nodes[1:]
-        if not species.at_or_below(places[child],
-                                   places[gene.parents[child]])))
+        child for child in nodes
+        if child != gene.root
+        and not species.at_or_below(places[child],
+                                    places[gene.parents[child]])))
     refuse_lowest(11, GENE, (
         node for node in nodes
         if labels[node] == SPECIATION
@@ -375,10 +403,9 @@ def judge_offered(species_parents, species_taxa, gene_parents, gene_taxa,
 
 def nearest_speciation_above(gene, labels, node):
     """The nearest proper ancestor that is a speciation, or None."""
-    while node != 0:
-        node = gene.parents[node]
-        if labels[node] == SPECIATION:
-            return node
+    for above in gene.lines[node][1:]:
+        if labels[above] == SPECIATION:
+            return above
     return None
 
 
@@ -560,7 +587,8 @@ def open_image(image, rack):
 
 
 def stored_counts(stored, rack):
-    """Gene 2, 3, 4, 6 and 8 to 11 of what an image holds; gives the counts."""
+    """Gene 2, 38, 3, 4, 6 and 8 to 11 of what an image holds; gives the
+    counts."""
     gene = judge_gene_entries(stored.gene_parents, stored.gene_taxa, rack)
     return offered_counts(rack, gene, stored.places, stored.labels)
 
@@ -569,8 +597,8 @@ def load_image(rack_parents, rack_taxa, image,
                gene_parents, gene_taxa, places, labels):
     """The call: loads an image into four lent tables.
 
-    A refusal leaves them as they were, except one by the gene tree's 2, 3, 4,
-    6 or 8 to 11, which leaves the first q entries of each zero.
+    A refusal leaves them as they were, except one by the gene tree's 2, 38, 3,
+    4, 6 or 8 to 11, which leaves the first q entries of each zero.
     """
     rack = judge_species(rack_parents, rack_taxa)
     stored = open_image(image, rack)

@@ -20,8 +20,9 @@ Parameter = namedtuple("Parameter", "name is_table highest most_entries lent")
 # A request: its code and its parameters' values, tables as lists.
 Request = namedtuple("Request", "code values")
 
-# An answer: the refusal number (0 if none) and the lines that are printed.
-Answer = namedtuple("Answer", "refusal lines")
+# An answer: the refusal number (0 if none), its tree, and the lines that are
+# printed.
+Answer = namedtuple("Answer", "refusal tree lines")
 
 
 class BadRequest(Exception):
@@ -133,11 +134,6 @@ def write_image(*values):
     return (reference.write_image(*values),)
 
 
-def host(*values):
-    answer = reference.host_answer(*values)
-    return (answer.refusal, answer.duplications, answer.losses)
-
-
 CALLS = {
     1: judge_species,
     2: judge_pair,
@@ -146,7 +142,7 @@ CALLS = {
     5: reference.dating,
     6: write_image,
     7: reference.load_image,
-    8: host,
+    8: reference.host_answer,
 }
 
 
@@ -155,21 +151,25 @@ def spaced(numbers):
 
 
 def first_line(request, values):
-    """The refusal number and the first line; changes the lent values."""
+    """The refusal number, its tree and the first line; changes the lent
+    values.  The host's calls give a refusal as a number of the answer."""
     try:
         numbers = CALLS[request.code](*values)
     except Refusal as refusal:
-        return refusal.number, "refused " + spaced(refusal.triple)
-    refused = numbers[0] if request.code == 8 else 0
-    return refused, " ".join(["ok"] + [str(entry) for entry in numbers])
+        return (refusal.number, refusal.tree,
+                "refused " + spaced(refusal.triple))
+    if request.code == 8:
+        return numbers.refusal, numbers.tree, "ok " + spaced(
+            (numbers.refusal, numbers.duplications, numbers.losses))
+    return 0, 0, " ".join(["ok"] + [str(entry) for entry in numbers])
 
 
 def answer_to(request):
     """What the reference answers; the request itself stays as it is."""
     values = [list(value) if isinstance(value, list) else value
               for value in request.values]
-    refused, line = first_line(request, values)
+    refused, tree, line = first_line(request, values)
     lent = [spaced(value)
             for parameter, value in zip(LAYOUT[request.code], values)
             if parameter.lent]
-    return Answer(refused, [line] + lent)
+    return Answer(refused, tree, [line] + lent)

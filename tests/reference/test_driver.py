@@ -1,14 +1,16 @@
 """Tests of the generator and the driver, with the stand-in for the programs.
 
 They make sure that each kind of fault really is one, that every refusal number
-is drawn often, that requests survive being sent, and that the driver finds an
-answer that was spoiled.
+is drawn often, that trees come numbered in every way, that requests survive
+being sent, and that the driver finds an answer that was spoiled or that leans
+on the numbering.
 
     python3 test_driver.py
 """
 
 import contextlib
 import io
+import itertools
 import os
 import random
 import re
@@ -25,7 +27,8 @@ import generate_images as images
 import generate_trees as trees
 import panheron_reference as reference
 import protocol
-from panheron_reference import Refusal
+import renumberings
+from panheron_reference import NO_PARENT, Refusal
 
 FAKE = "%s %s" % (shlex.quote(sys.executable), shlex.quote(os.path.join(
     os.path.dirname(os.path.abspath(__file__)), "fake_replay.py")))
@@ -44,6 +47,56 @@ def case_number(case):
     """The number that an image is refused with on its rack."""
     return number_of(reference.load_image, *case.rack, case.image,
                      *[[0] * 2047 for _ in range(4)])
+
+
+class Numberings(unittest.TestCase):
+    """The ways in which trees are numbered."""
+
+    def way(self, tables):
+        """Whether parents come first, children do, or neither."""
+        steps = {parent < node for node, parent in enumerate(tables.parents)
+                 if parent != NO_PARENT}
+        return {(True,): "down", (False,): "up"}.get(tuple(steps), "mixed")
+
+    def check_all_ways(self, draw):
+        """Each way for either tree, whatever the other's is."""
+        rng = random.Random(7)
+        drawn = Counter(tuple(map(self.way, draw(rng))) for _ in range(400))
+        for ways in itertools.product(("down", "up", "mixed"), repeat=2):
+            self.assertGreater(drawn[ways], 8, ways)
+
+    def test_pairs(self):
+        self.check_all_ways(trees.sound_pair)
+
+    def test_stored_pairs(self):
+        self.check_all_ways(lambda rng: images.draw_pair(rng, False))
+
+    def test_genes_like_the_species(self):
+        rng, anew = random.Random(8), 0
+        for _ in range(100):
+            species = trees.species_tree(rng, 9)
+            gene = trees.species_like_gene(rng, species)
+            anew += gene.parents != species.parents
+        self.assertGreater(anew, 40)
+        self.assertLess(anew, 80)
+
+    def test_renumbered(self):
+        tables = trees.Tables([NO_PARENT, 0, 1, 1, 0], [0, 0, 11, 12, 13])
+        self.assertEqual(trees.renumbered(tables, [3, 0, 4, 1, 2]),
+                         ([3, 0, 3, NO_PARENT, 0], [0, 12, 13, 0, 11]))
+
+    def test_carried_answers(self):
+        numbers = renumberings.Numbers([3, 0, 4, 1, 2], [1, 2, 0])
+        self.assertEqual(
+            renumberings.carried(3, ["ok 1 2 0 2 7", "1 2 2", "2 0 0"],
+                                 numbers),
+            ["ok 1 2 0 2 7", "4 0 4", "0 2 0"])
+        self.assertEqual(
+            renumberings.carried(4, ["ok 1 2 0"], numbers), ["ok 1 2 0"])
+        for line, expected in (("ok 0", "ok 0"), ("ok 1 2", "ok 1 4"),
+                               ("ok 2 2 0", "ok 2 4 3")):
+            self.assertEqual(
+                renumberings.carried(5, [line], numbers), [expected])
 
 
 class Faults(unittest.TestCase):
@@ -79,6 +132,25 @@ class Faults(unittest.TestCase):
                 fault(rng, gene)
                 return number_of(reference.judge_pair, *species, *gene)
             self.check(draw, number, 0.5)
+
+    def test_places_of_two_and_thirty_eight(self):
+        """Each way to break 2 and 38, on a tree whose root is node 3."""
+        for fault, number, places in (
+                (trees.wrong_parent, 2, {0, 1, 2, 3, 4}),
+                (trees.second_root, 2, {3, 4}),
+                (trees.no_root, 2, {65535}),
+                (trees.own_parent, 38, {0, 1, 2, 4}),
+                (trees.circle, 38, {0, 1, 2, 4})):
+            rng, drawn = random.Random(number), set()
+            for _ in range(200):
+                tree = trees.Tables([3, 0, 3, NO_PARENT, 0],
+                                    [0, 12, 13, 0, 11])
+                fault(rng, tree)
+                with self.assertRaises(Refusal) as refused:
+                    reference.judge_species(*tree)
+                self.assertEqual(refused.exception.number, number)
+                drawn.add(refused.exception.place)
+            self.assertEqual(drawn, places, fault)
 
     def test_legal_histories(self):
         rng = random.Random(1)
@@ -116,7 +188,7 @@ class Faults(unittest.TestCase):
             images.exchanged_taxa: {0, 18}, images.renamed_taxon: {0, 5, 18},
             images.other_parent: {0, 18}, images.other_species_taxon: {18},
             images.parent_and_taxon: {18}, images.other_rack: {0, 18},
-            images.unsound_rack: {0, 1, 2, 3, 4, 5, 18},
+            images.unsound_rack: {0, 1, 2, 38, 3, 4, 5, 18},
         }
         rng = random.Random(2)
         for damage, numbers in expected.items():
@@ -128,7 +200,7 @@ class Faults(unittest.TestCase):
     def test_sealed_faults(self):
         rng = random.Random(3)
         drawn = {case_number(images.unsound_gene(rng)) for _ in range(100)}
-        self.assertLessEqual({2, 3, 4, 6}, drawn)
+        self.assertLessEqual({2, 38, 3, 4, 6}, drawn)
         drawn = {case_number(images.unlawful_history(rng)) for _ in range(100)}
         self.assertLessEqual({8, 9, 10, 11}, drawn)
 
@@ -139,12 +211,12 @@ class Requests(unittest.TestCase):
     def test_every_number_occurs_often(self):
         drawn = Counter(protocol.answer_to(generate.request(5, index)).refusal
                         for index in range(3000))
-        for number in range(20):
+        for number in (*range(20), 38):
             self.assertGreater(drawn[number], 20, number)
 
     def test_twenty_occurs_often(self):
         drawn = Counter(drive.refusal_printed(reference.history_program(
-            generate.text(5, index))) for index in range(300))
+            generate.text(5, index)))[0] for index in range(300))
         self.assertGreater(drawn[0], 40)
         self.assertGreater(drawn[20], 60)
         self.assertGreater(drawn[1], 15)
@@ -186,7 +258,7 @@ class Requests(unittest.TestCase):
             ["refused 7 0 0", "9 9", ""])
         self.assertEqual(
             protocol.answer_to(protocol.Request(8, [[], [], []])),
-            (1, ["ok 1 0 0"]))
+            (1, 1, ["ok 1 0 0"]))
 
     def test_bad_requests(self):
         for text in ("0", "9", "x", "1", "1 1 65536 1 7", "1 1 65535 1",
@@ -202,7 +274,7 @@ class Seeds(unittest.TestCase):
         """The kind, seed and index of everything that is asked for."""
         arguments = drive.parse_arguments(
             ["--replay", "r", "--history", "h", "--requests", "901",
-             "--texts", "50", "--large", "5", *words])
+             "--texts", "50", "--large", "5", "--pairs", "61", *words])
         return [(task.maker, task.seed, index)
                 for task in drive.all_tasks(arguments)
                 for index in range(task.first, task.first + task.count)]
@@ -210,7 +282,8 @@ class Seeds(unittest.TestCase):
     def test_one_seed(self):
         made = self.made("--seed", "1")
         self.assertEqual(Counter(kind for kind, _, _ in made), {
-            "request": 901, "large request": 5, "text": 50, "large text": 5})
+            "request": 901, "large request": 5, "text": 50, "large text": 5,
+            "pair": 61})
         self.assertEqual({seed for _, seed, _ in made}, {"1"})
 
     def test_the_fixed_half_is_the_first_of_the_old(self):
@@ -218,7 +291,7 @@ class Seeds(unittest.TestCase):
         made = self.made("--seed", "1", "--fresh", "77")
         for kind, fixed, fresh in (("request", 451, 450), ("text", 25, 25),
                                    ("large request", 3, 2),
-                                   ("large text", 3, 2)):
+                                   ("large text", 3, 2), ("pair", 31, 30)):
             ours = [one for one in made if one[0] == kind]
             self.assertEqual(
                 ours[:fixed], [one for one in old if one[0] == kind][:fixed])
@@ -242,26 +315,52 @@ class Driving(unittest.TestCase):
         tempfile.tempdir = folder.name
 
     def drive(self, *arguments):
-        """The exit status and what was printed."""
+        """The exit status and what was printed; pairs only if asked for."""
         out = io.StringIO()
         with contextlib.redirect_stdout(out):
-            status = drive.main(list(arguments))
+            status = drive.main(["--pairs", "0", *arguments])
         return status, out.getvalue()
 
     def test_agreement(self):
         status, printed = self.drive(
             "--replay", FAKE, "--history", FAKE + " --history",
-            "--requests", "1500", "--texts", "24", "--large", "1",
-            "--all-numbers")
+            "--requests", "2000", "--texts", "24", "--large", "1",
+            "--pairs", "60", "--all-numbers")
         self.assertEqual(status, 0, printed)
-        self.assertIn("agreed: 1500 requests, 1 large requests, 24 texts, "
-                      "1 large texts", printed)
+        self.assertIn("agreed: 2000 requests, 1 large requests, 60 pairs, "
+                      "24 texts, 1 large texts", printed)
 
     def test_spoiled_answers(self):
         status, printed = self.drive(
             "--replay", FAKE + " --spoil 150", "--requests", "400")
         self.assertEqual(status, 1)
         self.assertIn("difference 1: request 149, code", printed)
+
+    def test_spoiled_pairs(self):
+        """Of a pair's six answers the last three are about the pair numbered
+        anew."""
+        for spoiled, code in ((4, renumberings.LEAST_HISTORY),
+                              (5, renumberings.OFFERED),
+                              (6, renumberings.DATING)):
+            status, printed = self.drive(
+                "--replay", "%s --spoil %d" % (FAKE, spoiled), "--requests",
+                "0", "--pairs", "1")
+            self.assertEqual(status, 1)
+            self.assertIn("difference 1: pair 0, code %d\n" % code, printed)
+
+    def test_answers_that_lean_on_the_numbering(self):
+        status, printed = self.drive(
+            "--replay", FAKE + " --lean", "--requests", "0", "--pairs", "20",
+            "--differences", "1")
+        self.assertEqual(status, 1)
+        self.assertRegex(printed, r"difference 1: pair \d+, code 3\n")
+
+    def test_lines_after_the_last_pair(self):
+        status, printed = self.drive(
+            "--replay", "sh -c %s" % shlex.quote(FAKE + "; echo more"),
+            "--requests", "0", "--pairs", "2")
+        self.assertEqual(status, 1)
+        self.assertIn("difference 1: after pair 1", printed)
 
     def test_spoiled_texts(self):
         status, printed = self.drive(
@@ -280,12 +379,15 @@ class Driving(unittest.TestCase):
         self.assertEqual(again.split("\n")[0], printed.split("\n")[0])
 
     def test_differences_can_be_made_again(self):
-        for words in (["--replay", FAKE + " --spoil 1"],
-                      ["--history", FAKE + " --history --spoil 1"]):
+        for words, kinds in (
+                (["--replay", FAKE + " --spoil 5"], ["--pairs", "2"]),
+                (["--replay", FAKE + " --spoil 1"], ["--requests", "2"]),
+                (["--history", FAKE + " --history --spoil 1"], [])):
             for large in ("0", "1"):
+                large = "0" if "--pairs" in kinds else large
                 status, printed = self.drive(
-                    *words, "--requests", "2", "--texts", "2", "--large",
-                    large, "--fresh", "77", "--differences", "9")
+                    *words, "--requests", "0", "--texts", "2", *kinds,
+                    "--large", large, "--fresh", "77", "--differences", "9")
                 self.assertEqual(status, 1)
                 commands = re.findall(r"^again: python3 \S*drive.py (.*)$",
                                       printed, re.MULTILINE)
@@ -303,6 +405,7 @@ class Driving(unittest.TestCase):
             "--replay", FAKE, "--requests", "5", "--all-numbers")
         self.assertEqual(status, 2)
         self.assertIn("never occurred: ", printed)
+        self.assertIn(", 38 in tree 2 of history\n", printed)
 
     def test_program_that_prints_nothing(self):
         status, printed = self.drive("--replay", "true", "--requests", "5")

@@ -1,10 +1,11 @@
 """Unit tests of the reference.
 
-The cases of the scope paper (01) and of the readings are typed in by hand and
-never computed.  The cross-checks at the end compare the reference with other,
-slower ways to the same answers that are written here separately: climbing for
-M(g), lists of ancestors for the judge, and all legal histories of all small
-pairs of trees for the third demand.
+The cases of the scope paper (01), of request W8 (02) and of the readings are
+typed in by hand and never computed.  The cross-checks at the end compare the
+reference with other, slower ways to the same answers that are written here
+separately: climbing for M(g), lists of ancestors for the judge, a growing set
+of nodes for 38, and all legal histories of all small pairs of trees for the
+third demand.
 
     python3 test_reference.py
 """
@@ -12,6 +13,7 @@ pairs of trees for the third demand.
 import itertools
 import random
 import unittest
+from collections import Counter
 
 import generate_histories as histories
 import generate_images as images
@@ -217,20 +219,16 @@ class TreeRules(unittest.TestCase):
     def test_even_counts(self):
         self.assertEqual(self.species([TOP, 0], [0, 7]), (3, 1, 0))
         self.assertEqual(self.species([TOP, TOP], [7, 8]), (2, 1, 1))
+        self.assertEqual(self.species([1, TOP], [7, 0]), (3, 1, 1))
+        self.assertEqual(self.species([1, 0], [7, 8]), (2, 1, 65535))
         even = comb(2047)[:2046]
         self.assertEqual(
             self.species(even, [0] * 2046), (3, 1, 2044))
 
-    def test_first_entry(self):
-        for entry in (0, 1, 65534):
-            self.assertEqual(self.species([entry], [7]), (2, 1, 0))
-            self.assertEqual(self.gene([entry], [11]), (2, 2, 0))
-
-    def test_later_entries(self):
-        self.assertEqual(self.species([TOP, 0, 2], [0, 7, 8]), (2, 1, 2))
-        self.assertEqual(self.species([TOP, 0, TOP], [0, 7, 8]), (2, 1, 2))
-        self.assertEqual(self.species([TOP, 1, 0], [0, 7, 8]), (2, 1, 1))
-        self.assertEqual(self.species([TOP, 0, 3], [0, 7, 8]), (2, 1, 2))
+    def test_single_entry(self):
+        for entry, place in ((0, 65535), (1, 0), (5, 0), (65534, 0)):
+            self.assertEqual(self.species([entry], [7]), (2, 1, place))
+            self.assertEqual(self.gene([entry], [11]), (2, 2, place))
 
     def test_children(self):
         self.assertEqual(self.species([TOP, 0, 0, 0], [0, 7, 8, 9]), (3, 1, 0))
@@ -257,6 +255,172 @@ class TreeRules(unittest.TestCase):
     def test_species_before_gene(self):
         self.assertEqual(
             self.gene([], [], (R_PARENTS, [0, 0, 7, 7, 8])), (5, 1, 3))
+        self.assertEqual(
+            self.gene([0], [11], ([TOP, 0, 2], [0, 7, 8])), (38, 1, 2))
+
+
+class AnyOrder(unittest.TestCase):
+    """Request W8: refusals 2 and 38, and answers under any numbering (points
+    94 to 98)."""
+
+    # The small release and its second and fifth trees: the other way round,
+    # children before parents, and with the root in the middle.
+    REVERSED = ([4, 3, 3, 4, TOP], [13, 12, 11, 0, 0])
+    MIDDLE = ([3, 3, TOP, 2, 2], [11, 12, 0, 0, 13])
+    T2_REVERSED = ([4, 3, 3, 4, TOP], [12, 13, 11, 0, 0])
+    T5_MIDDLE = ([3, 2, TOP, 2, 3], [11, 13, 0, 0, 11])
+
+    def expect(self, number, answers):
+        """The place of a refusal for each parents table, as either tree."""
+        for parents, place in answers:
+            taxa = [11] * len(parents)
+            self.assertEqual(
+                refusal_of(reference.judge_species, parents, taxa),
+                (number, 1, place), parents)
+            self.assertEqual(
+                refusal_of(reference.judge_pair, *R, parents, taxa),
+                (number, 2, place), parents)
+
+    def test_parents(self):
+        self.expect(2, (
+            # a second root
+            ([TOP, TOP, 0], 1), ([TOP, 0, TOP], 2), ([1, TOP, TOP], 2),
+            ([TOP, TOP, TOP], 1),
+            # a parent that is not under n
+            ([TOP, 0, 3], 2), ([TOP, 3, 0], 1), ([3, TOP, 1], 0),
+            ([65534, 0, TOP], 0),
+            # both: the lower node, whichever it is
+            ([TOP, 3, TOP], 1), ([TOP, TOP, 3], 1), ([3, TOP, TOP], 0),
+            # no root, or a parent not under n before it
+            ([1, 2, 0], 65535), ([0, 0, 0], 65535), ([0, 1, 2], 65535),
+            ([1, 2, 3], 2), ([1, 0, 1, 4], 3)))
+
+    def test_reach(self):
+        self.expect(38, (
+            # own parents, at and beside the lowest number
+            ([TOP, 1, 0], 1), ([TOP, 0, 2], 2), ([0, TOP, 1], 0),
+            ([TOP, 1, 2], 1),
+            # round by two and by three
+            ([TOP, 2, 1], 1), ([1, 0, TOP], 0), ([TOP, 2, 3, 1], 1),
+            ([3, TOP, 0, 2, 1], 0),
+            # below what goes round, with a lower number than all that does
+            ([1, 2, 1, TOP, 3], 0), ([TOP, 2, 3, 4, 3], 1),
+            ([4, TOP, 4, 1, 4], 0), ([TOP, 0, 0, 4, 5, 5, 2], 3),
+            # beside a node that is misshapen
+            ([TOP, 0, 3, 2], 2)))
+
+    def test_two_before_thirty_eight_before_three(self):
+        self.expect(2, (([1, 0, TOP, 9], 3), ([1, 0, TOP, TOP], 3),
+                        ([1, 0, 3, 3], 65535)))
+        self.expect(38, (([TOP, 0, 0, 0, 4], 4), ([TOP, 0, 2, 2, 2], 2)))
+        self.assertEqual(
+            refusal_of(reference.judge_species, [2, 2, TOP, 2], [7, 7, 0, 0]),
+            (3, 1, 2))
+
+    def test_lowest_is_the_lowest_number(self):
+        def species(parents, taxa):
+            return refusal_of(reference.judge_species, parents, taxa)
+        self.assertEqual(
+            species([3, 0, 3, TOP], [0, 8, 9, 0]), (3, 1, 0))
+        self.assertEqual(species([2, 2, TOP], [7, 0, 9]), (4, 1, 1))
+        self.assertEqual(species([2, 2, TOP], [7, 7, 0]), (5, 1, 1))
+        self.assertEqual(
+            species([3, 3, TOP, 2, 2], [7, 8, 0, 0, 7]), (5, 1, 4))
+        self.assertEqual(
+            refusal_of(reference.judge_pair, *R, [2, 2, TOP], [14, 15, 0]),
+            (6, 2, 0))
+
+    def test_sound(self):
+        for tree in (self.REVERSED, self.MIDDLE):
+            self.assertIsNone(refusal_of(reference.judge_species, *tree))
+            for gene in (R, self.REVERSED, self.MIDDLE, T3):
+                self.assertIsNone(
+                    refusal_of(reference.judge_pair, *tree, *gene))
+
+    def test_first_child_is_the_lower_number(self):
+        self.assertEqual(reference.children_of(self.REVERSED[0]),
+                         [[], [], [], [1, 2], [0, 3]])
+
+    def test_climb_of_003_would_leave_the_tree(self):
+        self.assertEqual(least(([1, TOP, 1], [7, 0, 8]),
+                               ([2, 2, TOP], [8, 7, 0])),
+                         ([2, 0, 1], [0, 0, 1], (0, 0, 1, 2, 0)))
+
+    def test_least_histories(self):
+        second, fifth = (1, 3, 1, 5, 4), (1, 1, 1, 3, 2)
+        for species, gene, places, labels, answer in (
+                (R, self.T2_REVERSED, [3, 4, 2, 0, 0], [0, 0, 0, 1, 2],
+                 second),
+                (self.REVERSED, T2, [4, 4, 2, 0, 1], [2, 1, 0, 0, 0], second),
+                (self.REVERSED, self.T2_REVERSED, [1, 0, 2, 4, 4],
+                 [0, 0, 0, 1, 2], second),
+                (self.MIDDLE, T2, [2, 2, 0, 4, 1], [2, 1, 0, 0, 0], second),
+                (self.MIDDLE, self.T5_MIDDLE, [0, 4, 2, 0, 0],
+                 [0, 0, 1, 2, 0], fifth),
+                (self.REVERSED, self.T5_MIDDLE, [2, 0, 4, 2, 2],
+                 [0, 0, 1, 2, 0], fifth)):
+            self.assertEqual(least(species, gene), (places, labels, answer))
+
+    def test_dating(self):
+        self.assertEqual(
+            reference.dating(*self.REVERSED, *self.T5_MIDDLE, 3), (2, 2, 4))
+        self.assertEqual(
+            reference.dating(*self.MIDDLE, *self.T5_MIDDLE, 3), (2, 0, 2))
+        self.assertEqual(
+            reference.dating(*self.MIDDLE, *self.T2_REVERSED, 4), (1, 2))
+        self.assertEqual(
+            reference.dating(*self.MIDDLE, *self.T2_REVERSED, 3), (0,))
+
+    def test_offers(self):
+        gene, species = self.T2_REVERSED, self.REVERSED
+        places = [1, 0, 2, 4, 4]
+        self.assertEqual(
+            offered(gene, places, [0, 0, 0, 2, 2], species), (2, 5, 0))
+        self.assertEqual(
+            offered_refusal(gene, places, [0, 0, 0, 1, 1], species),
+            (11, 2, 4))
+        self.assertEqual(
+            offered_refusal(gene, [1, 0, 2, 3, 4], [0, 0, 0, 2, 2], species),
+            (10, 2, 1))
+        self.assertEqual(
+            offered_refusal(gene, [1, 0, 2, 4, 3], [0, 0, 0, 2, 2], species),
+            (10, 2, 3))
+        self.assertEqual(
+            offered_refusal(gene, [1, 0, 3, 4, 4], [0, 0, 0, 1, 2], species),
+            (9, 2, 2))
+
+    def test_images_keep_the_numbers(self):
+        for species, gene in ((self.REVERSED, self.T2_REVERSED),
+                              (self.MIDDLE, self.T5_MIDDLE)):
+            places, labels, answer = least(species, gene)
+            image = written(gene, places, labels, species)
+            lent = lent_four(5)
+            self.assertEqual(
+                reference.load_image(*species, image, *lent),
+                (5, 5, answer.duplications, answer.losses))
+            self.assertEqual(lent, [*gene, places, labels])
+            # a tree numbered otherwise is another release's
+            self.assertEqual(load_refusal(image), (18, 1, 0))
+
+    def test_printed(self):
+        numbers = [5, 5, *self.MIDDLE[0], *self.MIDDLE[1],
+                   *self.T2_REVERSED[0], *self.T2_REVERSED[1]]
+        self.assertEqual(
+            printed(" ".join(map(str, numbers)).encode("ascii")),
+            "0 1 L\n1 4 L\n2 0 L\n3 2 S\n4 2 D\n1 3 1 5 4\n")
+
+    def test_comb_the_other_way_round(self):
+        """A caterpillar whose root is the last of 2,047 nodes, and one that
+        goes round at its lower end."""
+        nodes = 2047
+        parents = [nodes - 1 - parent for parent in comb(nodes)[:0:-1]] + [TOP]
+        taxa = comb_taxa(nodes, lambda node: node + 1)[::-1]
+        places, _, answer = least((parents, taxa), (parents, taxa))
+        self.assertEqual(places, list(range(nodes)))
+        self.assertEqual(answer, (0, 0, 1023, 2046, 0))
+        parents[2044] = 0
+        self.assertEqual(
+            refusal_of(reference.judge_species, parents, taxa), (38, 1, 0))
 
 
 class LeastHistory(unittest.TestCase):
@@ -539,8 +703,11 @@ class Images(unittest.TestCase):
     def test_gene_tree_in_the_image(self):
         image = least_image(T2)
         parents, taxa = 18, 23
-        self.check_zeroed(with_word(image, parents, 0), (2, 2, 0))
+        self.check_zeroed(with_word(image, parents, 0), (2, 2, 65535))
         self.check_zeroed(with_word(image, parents + 2, TOP), (2, 2, 2))
+        self.check_zeroed(with_word(image, parents + 4, 5), (2, 2, 4))
+        self.check_zeroed(with_word(image, parents + 1, 3), (38, 2, 1))
+        self.check_zeroed(with_word(image, parents + 4, 4), (38, 2, 4))
         self.check_zeroed(with_word(image, parents + 4, 1), (3, 2, 0))
         self.check_zeroed(with_word(image, taxa + 4, 0), (4, 2, 2))
         self.check_zeroed(with_word(image, taxa + 1, 1), (4, 2, 0))
@@ -682,20 +849,24 @@ class Texts(unittest.TestCase):
 
     def test_tree_rules(self):
         self.expect({
-            b"1 1 0 7 0 7": "2 1 0",
+            b"1 1 0 7 0 7": "2 1 65535",
+            b"1 1 1 7 0 7": "2 1 0",
+            b"3 1 2 2 1 7 8 0 65535 7": "2 1 65535",
+            b"3 1 65535 2 1 0 7 8 65535 7": "38 1 1",
+            b"3 3 65535 0 0 0 7 8 0 2 65535 7 8 0": "38 2 0",
             b"2 1 65535 0 0 7 65535 7": "3 1 0",
             b"1 1 65535 0 65535 7": "4 1 0",
             b"3 1 65535 0 0 0 7 7 65535 7": "5 1 2",
-            b"1 1 65535 7 0 7": "2 2 0",
+            b"1 1 65535 7 0 7": "2 2 65535",
             b"1 3 65535 7 65535 0 0 0 7 8": "6 2 2",
         })
 
     def test_any_sound_pair_fits(self):
         nodes = 2047
         parents = [TOP] + [(node - 1) // 2 for node in range(1, nodes)]
-        deep = comb(nodes)
-        for table in (parents, deep):
-            inner = set(table[1:])
+        upward = [nodes - 1 - parent for parent in parents[:0:-1]] + [TOP]
+        for table in (parents, comb(nodes), upward):
+            inner = set(table)
             taxa = [0 if node in inner else 4294967295 - node
                     for node in range(nodes)]
             numbers = [nodes, nodes] + (table + taxa) * 2
@@ -705,6 +876,7 @@ class Texts(unittest.TestCase):
                              (table, taxa, table, taxa))
             lines = printed(text).split("\n")
             self.assertEqual(lines[2047], "0 0 1023 2046 0")
+        self.assertEqual(len(text), 47101)
 
 
 # Cross-checks: other ways to the same answers
@@ -712,19 +884,20 @@ class Texts(unittest.TestCase):
 
 def ancestors(parents, node):
     """The node and all above it, from below."""
-    line = [node]
-    while node != 0:
-        node = parents[node]
+    line = []
+    while node != TOP:
         line.append(node)
+        node = parents[node]
     return line
 
 
 def climbed(parents, one, other):
     """Where two species nodes meet, and the steps that climbing takes: the
-    higher number goes up, since parents have lower numbers."""
+    deeper one goes up."""
+    depths = [len(ancestors(parents, node)) for node in range(len(parents))]
     steps = 0
     while one != other:
-        if one > other:
+        if depths[one] > depths[other]:
             one = parents[one]
         else:
             other = parents[other]
@@ -738,7 +911,8 @@ def climbing_history(species, gene):
     places = [None] * len(parents)
     labels = [0] * len(parents)
     climbs = 0
-    for node in reversed(range(len(parents))):
+    for node in sorted(range(len(parents)), reverse=True,
+                       key=lambda one: len(ancestors(parents, one))):
         below = [child for child, parent in enumerate(parents)
                  if parent == node]
         if not below:
@@ -751,11 +925,27 @@ def climbing_history(species, gene):
     return places, labels, climbs
 
 
+def naive_order(parents):
+    """What 2 and 38 say of a parents table, as (number, place) or None: what
+    reaches the root is a set that grows from it."""
+    n = len(parents)
+    roots = [node for node in range(n) if parents[node] == TOP]
+    wrong = roots[1:] + [node for node in range(n)
+                         if n <= parents[node] < TOP]
+    if wrong or not roots:
+        return (2, min(wrong, default=65535))
+    reached = set(roots)
+    for _ in range(n):
+        reached |= {node for node in range(n) if parents[node] in reached}
+    return next(((38, node) for node in range(n) if node not in reached),
+                None)
+
+
 def naive_judgement(species, gene, places, labels):
     """What the rules of descent say, with lists of ancestors."""
     (species_parents, species_taxa), (parents, taxa) = species, gene
     p, q = len(species_parents), len(parents)
-    below = {node: [child for child in range(1, q) if parents[child] == node]
+    below = {node: [child for child in range(q) if parents[child] == node]
              for node in range(q)}
     for node in range(q):
         kinds = (1, 2) if below[node] else (0,)
@@ -765,12 +955,12 @@ def naive_judgement(species, gene, places, labels):
         if not below[node] and species_taxa[places[node]] != taxa[node]:
             return (9, 2, node)
     lines = [ancestors(species_parents, place) for place in places]
-    for node in range(1, q):
-        if places[parents[node]] not in lines[node]:
+    for node in range(q):
+        if parents[node] != TOP and places[parents[node]] not in lines[node]:
             return (10, 2, node)
     for node in range(q):
         if labels[node] == 1:
-            sides = [child for child in range(1, p)
+            sides = [child for child in range(p)
                      if species_parents[child] == places[node]]
             on = [[side for side in sides if side in lines[child]]
                   for child in below[node]]
@@ -780,12 +970,21 @@ def naive_judgement(species, gene, places, labels):
 
 
 def sound_parents(nodes):
-    """All sound parents tables of so many nodes."""
+    """All sound parents tables of so many nodes in which parents come
+    first."""
     found = []
     for rest in itertools.product(*[range(node) for node in range(1, nodes)]):
         if all(rest.count(node) in (0, 2) for node in range(nodes)):
             found.append([TOP] + list(rest))
     return found
+
+
+def any_sound_parents(nodes):
+    """All sound parents tables of so many nodes, in any order."""
+    return [list(table)
+            for table in itertools.product((TOP, *range(nodes)), repeat=nodes)
+            if naive_order(table) is None
+            and all(table.count(node) in (0, 2) for node in range(nodes))]
 
 
 def leaves_in(parents):
@@ -799,25 +998,23 @@ def taxa_table(parents, leaf_taxa):
     return taxa
 
 
-def all_species(nodes):
+def all_species(nodes, tables):
     """All species trees of so many nodes, taxa 1, 2, 3 and so on."""
-    for parents in sound_parents(nodes):
+    for parents in tables(nodes):
         yield parents, taxa_table(parents, itertools.count(1))
 
 
-def all_genes(nodes, taxa):
+def all_genes(nodes, taxa, tables):
     """All gene trees of so many nodes on so many taxa."""
-    for parents in sound_parents(nodes):
+    for parents in tables(nodes):
         leaves = len(leaves_in(parents))
         for drawn in itertools.product(range(1, taxa + 1), repeat=leaves):
             yield parents, taxa_table(parents, drawn)
 
 
-def all_pairs(species_nodes, gene_nodes):
-    for species in all_species(species_nodes):
-        taxa = (species_nodes + 1) // 2
-        for gene in all_genes(gene_nodes, taxa):
-            yield species, gene
+def all_pairs(species_nodes, gene_nodes, tables=sound_parents):
+    genes = list(all_genes(gene_nodes, (species_nodes + 1) // 2, tables))
+    return itertools.product(all_species(species_nodes, tables), genes)
 
 
 def all_placements(species, gene):
@@ -827,18 +1024,22 @@ def all_placements(species, gene):
     p = len(species_parents)
     lines = [set(ancestors(species_parents, node)) for node in range(p)]
 
+    downward = sorted(range(len(parents)),
+                      key=lambda node: len(ancestors(parents, node)))
+
     def extend(places):
-        node = len(places)
-        if node == len(parents):
-            yield places
+        if len(places) == len(parents):
+            yield [places[node] for node in range(len(parents))]
             return
+        node = downward[len(places)]
+        parent = parents[node]
         choices = ([species_taxa.index(taxa[node])] if taxa[node]
                    else range(p))
         for place in choices:
-            if node == 0 or places[parents[node]] in lines[place]:
-                yield from extend(places + [place])
+            if parent == TOP or places[parent] in lines[place]:
+                yield from extend({**places, node: place})
 
-    return extend([])
+    return extend({})
 
 
 def all_legal_histories(species, gene):
@@ -875,11 +1076,42 @@ class CrossChecks(unittest.TestCase):
             for species, gene in all_pairs(*sizes):
                 self.check_least(species, gene)
 
+    def test_climbing_on_all_small_pairs_in_any_order(self):
+        for sizes in ((1, 3), (3, 1), (3, 3), (3, 5), (5, 3)):
+            for species, gene in all_pairs(*sizes, any_sound_parents):
+                self.check_least(species, gene)
+
+    def test_all_small_tables(self):
+        """Every table of up to five parents, as either tree."""
+        seen = Counter()
+        for nodes in range(1, 6):
+            for parents in itertools.product((TOP, *range(nodes + 1)),
+                                             repeat=nodes):
+                came = refusal_of(reference.judge_species, parents,
+                                  [9] * nodes)
+                genes = refusal_of(reference.judge_pair, *R, parents,
+                                   [9] * nodes)
+                expected = naive_order(parents)
+                seen[expected and expected[0]] += 1
+                if expected is None:
+                    self.assertIn((came or (5,))[0], (3, 4, 5), parents)
+                    self.assertIn(genes[0], (3, 4, 6), parents)
+                else:
+                    number, place = expected
+                    self.assertEqual(came, (number, 1, place), parents)
+                    self.assertEqual(genes, (number, 2, place), parents)
+        self.assertEqual(set(seen), {None, 2, 38})
+
     def test_judge_on_all_small_offers(self):
-        """Every table of places and labels for pairs of three nodes."""
-        for species, gene in all_pairs(3, 3):
-            for places in itertools.product(range(4), repeat=3):
-                for labels in itertools.product(range(4), repeat=3):
+        """Every table of places and labels for pairs of three nodes; one in
+        four of them where the trees are numbered in any order."""
+        rng = random.Random(8)
+        for tables, share in ((sound_parents, 1), (any_sound_parents, 0.25)):
+            for (species, gene), places, labels in itertools.product(
+                    all_pairs(3, 3, tables),
+                    itertools.product(range(4), repeat=3),
+                    itertools.product(range(4), repeat=3)):
+                if rng.random() < share:
                     self.assertEqual(
                         offered_refusal(gene, places, labels, species),
                         naive_judgement(species, gene, places, labels))
@@ -918,6 +1150,11 @@ class CrossChecks(unittest.TestCase):
             if sizes != (7, 7):
                 for species, gene in all_pairs(*sizes):
                     self.check_third_demand(species, gene)
+
+    def test_third_demand_on_all_small_pairs_in_any_order(self):
+        for sizes in ((3, 3), (3, 5), (5, 3)):
+            for species, gene in all_pairs(*sizes, any_sound_parents):
+                self.check_third_demand(species, gene)
 
     def test_third_demand_on_some_larger_pairs(self):
         """One in a hundred of the pairs with 7 nodes in each tree."""

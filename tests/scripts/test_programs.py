@@ -72,7 +72,7 @@ class Case(unittest.TestCase):
     """A folder with the scripts, and stand-ins beside it."""
 
     machine = "x86_64"
-    filters = {"history": 2, "replay": 4}
+    filters = {"history": 4, "replay": 6}
 
     def setUp(self):
         self.folder = tempfile.mkdtemp()
@@ -225,7 +225,7 @@ class Building(Case):
     def test_rackcheck(self):
         self.write("program", SHOWS_WORDS)
         for said in ([
-                "rackcheck: proving and building Panheron: about 4 minutes, "
+                "rackcheck: proving and building Panheron: about 6 minutes, "
                 "once", "rackcheck: trees proved (2 s)"], []):
             self.expect(self.run_script("rackcheck", "a", "b", "c d"),
                         0, "a\nb\nc d\n", said)
@@ -237,7 +237,7 @@ class Building(Case):
         run = self.run_script("history")
         self.assertEqual(run.stderr.splitlines()[0],
                          "history: proving and building what is not proved "
-                         "yet of Panheron: up to 2 minutes")
+                         "yet of Panheron: up to 4 minutes")
         self.assertEqual(self.calls(), 2 * ["check history"])
 
     def test_progress_comes_while_it_builds(self):
@@ -266,7 +266,7 @@ class Building(Case):
         said = sorted(run.communicate()[1].splitlines()[0] for run in runs)
         self.assertEqual(said, [
             "history: another run is building: waiting for it",
-            "history: proving and building Panheron: about 2 minutes, once"])
+            "history: proving and building Panheron: about 4 minutes, once"])
         self.assertEqual([run.returncode for run in runs], [0, 0])
         self.assertEqual(self.calls(), ["check history"])
 

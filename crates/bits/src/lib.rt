@@ -1,4 +1,4 @@
-// Rules 2, 3 and 4 on a small stack: children are counted with two bits a node, in a table of 512 entries that the caller lends and
+// Rules 2, 38, 3 and 4 on a small stack: children are counted with two bits a node, in a table of 512 entries that the caller lends and
 // that may hold anything before and after. The tables may be of either tree: indices are those of the table handed in, and a refusal
 // names its tree.
 //
@@ -13,77 +13,34 @@ ghost use Rattle.trees.specs.Lists.{one};
 ghost use Rattle.trees.specs.Trees.{kids};
 ghost use Rattle.trees.specs.Tables.{taxon};
 ghost use Rattle.trees.specs.Rulings.{verdict, each};
-ghost use Rattle.trees.specs.Rules.{sized, paired, marked};
+ghost use Rattle.trees.specs.Rules.{sized, paired, marked, childRules};
 ghost use Rattle.trees.specs.Answers.{judgedOf};
-ghost use Rattle.shapes.specs.Counts.{Shaped, wantedCount};
+ghost use Rattle.shapes.specs.Counts.{wantedCount};
 ghost use Rattle.shapes.specs.Promises.{JudgeShapeMeets};
-ghost use Rattle.bits.specs.Bits.{two, more, twoAt, Counted, Blank, Childed, Shapely};
+ghost use Rattle.marks.specs.Bits.{twoAt, Blank};
+ghost use Rattle.bits.specs.Children.{Childed, Shapely};
 use trees::Judged;
 use trees::refuse;
-
-// ---- two bits a node
-
-// The two bits of an entry at place k.
-fn two_of(entry: u16, k: usize) -> u16
-    requires { ⌜ k < 4 ⌝ }
-    ensures { λ r. ⌜ r ≡ two entry k ⌝ }
-{
-    let s = 2 * k;
-    (entry >> s) % 4
-}
-
-// The entry with one more at place k.
-fn more_of(entry: u16, k: usize) -> u16
-    requires { ⌜ (k < 4) × (two entry k < 2) ⌝ }
-    ensures { λ r. ⌜ r ≡ more entry k ⌝ }
-{
-    let s = 2 * k;
-    entry + (1u16 << s)
-}
-
-// The table with zeros alone.
-fn blank(counts: &mut [u16])
-    requires { ⌜ length (now counts) ≡ 512 ⌝ }
-    ensures { λ r. ⌜ Blank (now (counts .exit)) ⌝ }
-{
-    let n = counts.len();
-    let mut i: usize = 0;
-    while i < n {
-        counts[i] = 0;
-        i += 1;
-    }
-}
-
-// One more child of node u, if it has at most one yet.
-fn count_child(counts: &mut [u16], u: usize) -> bool
-    requires { ⌜ (length (now counts) ≡ 512) × (u < 2048) ⌝ }
-    ensures { λ r. ⌜ (T r → Counted (now (counts .entry)) u (now (counts .exit))) ⌝ }
-{
-    let w = u / 4;
-    let k = u % 4;
-    let entry = counts[w];
-    if two_of(entry, k) < 2 {
-        counts[w] = more_of(entry, k);
-        return true;
-    }
-    false
-}
 
 // ---- is anything wrong?
 
 // How many children each node has, into a table of zeros, as long as none has a third.
 fn count_pairs(parents: &[u16], counts: &mut [u16]) -> bool
-    requires { ⌜ Shaped (now parents) × Blank (now counts) ⌝ }
+    requires { ⌜ (length (now parents) ≤ 2047) × Blank (now counts) ⌝ }
     ensures { λ r. ⌜ (T r → Childed (now (parents .entry)) (length (now (parents .entry))) (now (counts .exit))) ⌝ }
 {
     let n = parents.len();
-    let mut i: usize = 1;
+    let mut i: usize = 0;
     while i < n {
         let u = parents[i] as usize;
-        if count_child(counts, u) {
+        if n <= u {
             i += 1;
         } else {
-            return false;
+            if marks::add_one(counts, u) {
+                i += 1;
+            } else {
+                return false;
+            }
         }
     }
     true
@@ -104,10 +61,7 @@ fn all_like(counts: &[u16], taxa: &[u32]) -> bool
     let n = taxa.len();
     let mut i: usize = 0;
     while i < n {
-        let w = i / 4;
-        let k = i % 4;
-        let count = two_of(counts[w], k);
-        if like(count, taxa[i]) {
+        if like(marks::two_at(counts, i), taxa[i]) {
             i += 1;
         } else {
             return false;
@@ -118,10 +72,10 @@ fn all_like(counts: &[u16], taxa: &[u32]) -> bool
 
 // Is it certain that rules 3 and 4 hold?
 fn surely_shaped(parents: &[u16], taxa: &[u32], counts: &mut [u16]) -> bool
-    requires { ⌜ T (sized (now parents) (now taxa)) × Shaped (now parents) × (length (now counts) ≡ 512) ⌝ }
+    requires { ⌜ T (sized (now parents) (now taxa)) × (length (now parents) ≤ 2047) × (length (now counts) ≡ 512) ⌝ }
     ensures { λ r. ⌜ (T r → Shapely (now (parents .entry)) (now (taxa .entry))) ⌝ }
 {
-    blank(counts);
+    marks::blank(counts);
     if count_pairs(parents, counts) {
         return all_like(counts, taxa);
     }
@@ -205,18 +159,13 @@ fn judge_marked(tree: u16, parents: &[u16], taxa: &[u32]) -> Judged
     Judged::Sound
 }
 
-// ---- rules 2, 3 and 4
+// ---- all of them
 
-// Rules 2, 3 and 4 of the tree with that number, on two tables that rule 1 has passed.
-pub fn judge_shape(tree: u16, parents: &[u16], taxa: &[u32], counts: &mut [u16]) -> Judged
+// Rules 3 and 4 of the tree with that number, on two tables that rule 1 has passed.
+fn judge_children(tree: u16, parents: &[u16], taxa: &[u32], counts: &mut [u16]) -> Judged
     requires { ⌜ T (sized (now parents) (now taxa)) × (length (now counts) ≡ 512) ⌝ }
-    ensures { λ r. ⌜ JudgeShapeMeets tree (now (parents .entry)) (now (taxa .entry)) r ⌝ }
+    ensures { λ r. ⌜ judgedOf r ≡ verdict (childRules tree (now (parents .entry)) (now (taxa .entry))) ⌝ }
 {
-    let n = parents.len();
-    let a = shapes::first_unordered(parents);
-    if a < n {
-        return Judged::Refused(refuse(2, tree, a));
-    }
     if surely_shaped(parents, taxa, counts) {
         return Judged::Sound;
     }
@@ -225,4 +174,16 @@ pub fn judge_shape(tree: u16, parents: &[u16], taxa: &[u32], counts: &mut [u16])
         return pairs;
     };
     judge_marked(tree, parents, taxa)
+}
+
+// Rules 2, 38, 3 and 4 of the tree with that number, on two tables that rule 1 has passed.
+pub fn judge_shape(tree: u16, parents: &[u16], taxa: &[u32], counts: &mut [u16]) -> Judged
+    requires { ⌜ T (sized (now parents) (now taxa)) × (length (now counts) ≡ 512) ⌝ }
+    ensures { λ r. ⌜ JudgeShapeMeets tree (now (parents .entry)) (now (taxa .entry)) r ⌝ }
+{
+    let rooted = reaches::judge_roots(tree, parents, counts);
+    let Judged::Sound = rooted else {
+        return rooted;
+    };
+    judge_children(tree, parents, taxa, counts)
 }

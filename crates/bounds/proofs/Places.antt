@@ -12,7 +12,7 @@ use mathlib.Core.List.{List, [], _∷_, _++_}
 use lib.ListN.{length}
 use Rattle.trees.specs.Tables.{Pair}
 use Rattle.trees.specs.Rulings.{Ruling, accepted, refused, Rule, whole, each, ruling, Passes, Fails, Every, done, and}
-use Rattle.trees.specs.Rules.{shapeRules, speciesRules, familyRules, geneRules, pairRules}
+use Rattle.trees.specs.Rules.{rootRules, childRules, shapeRules, speciesRules, familyRules, geneRules, pairRules}
 use Rattle.trees.proofs.Bools.{clash}
 use Rattle.trees.proofs.Rulings.{rule-cases, ruling-pass, ruling-fail}
 use Rattle.trees.proofs.Soundness.{sized-is}
@@ -44,10 +44,14 @@ pub each-place : (n t k : ℕ) (ok : ℕ → Bool) → k ≤ 65535 → (v : ℕ)
 each-place n t k ok h v f = omega (arith, f .0)
 
 shape-placed : (t : ℕ) (par tax : List ℕ) → length par ≤ 2047 → Placed (shapeRules t par tax)
-unfolding shapeRules
+unfolding shapeRules rootRules childRules
 shape-placed t par tax h =
     let k : length par ≤ 65535 = omega arith in
-    next (each-place 2 t _ _ k) (λ x. next (each-place 3 t _ _ k) (λ y. next (each-place 4 t _ _ k) (λ z. none)))
+    next (each-place 2 t _ _ k)
+    (λ w. next (whole-place 2 t 65535 _ (omega arith))
+    (λ x. next (each-place 38 t _ _ k)
+    (λ y. next (each-place 3 t _ _ k)
+    (λ z. next (each-place 4 t _ _ k) (λ u. none)))))
 
 pub species-placed : (sp st : List ℕ) → Placed (speciesRules sp st)
 unfolding speciesRules

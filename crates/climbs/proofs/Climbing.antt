@@ -11,7 +11,7 @@ use Rattle.trees.proofs.Lines.{up-at, low-node, proper}
 use Rattle.trees.proofs.Shape.{inner-count, depth-few}
 use Rattle.trees.proofs.Sound.{rooted}
 use Rattle.histories.specs.Histories.{everyNode}
-use Rattle.histories.proofs.Leaves.{depth-up}
+use Rattle.trees.proofs.Lines.{depth-up}
 use Rattle.climbs.specs.Climbing.{steps, Climb}
 
 -- on the way from low up to high, at `at`, after n steps

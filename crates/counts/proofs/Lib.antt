@@ -1,3 +1,3 @@
-pub mod Depths
+pub mod Deepening
 pub mod Tallying
 pub mod One

@@ -1,3 +1,4 @@
 pub mod Tallies
 pub mod Sums
+pub mod Noting
 pub mod Promises

@@ -1,13 +1,14 @@
 // What a history counts: duplications, losses, speciations and climbs, by the depths of the species nodes.
+mod depths;
+
 ghost use mathlib.Core.Path.{_≡_};
 ghost use Prim.Native.Nat.{_-_, _*_, _≤_, _<_};
 ghost use lib.ListN.{length, getD};
 ghost use lib.Dec.{eqb};
 ghost use Rattle.trees.specs.Lists.{one};
 ghost use Rattle.trees.specs.Tables.{pair};
-ghost use Rattle.trees.specs.Sound.{Treelike};
 ghost use Rattle.counts.specs.Tallies.{Story};
-ghost use Rattle.counts.specs.Sums.{Deep, stepsOf, Step, Countable, Lossy, Summed};
+ghost use Rattle.counts.specs.Sums.{stepsOf, Step, Countable, Lossy, Summed};
 ghost use Rattle.counts.specs.Promises.{CountHistoryMeets};
 use trees::GeneNode;
 use trees::SpeciesNode;
@@ -17,21 +18,6 @@ pub struct Tally {
     pub losses: u32,
     pub speciations: u32,
     pub climbs: u32,
-}
-
-// The depth of each species node. Parents come first, so one pass will do.
-fn fill_depths(parents: &[u16], depths: &mut [u16])
-    requires { ⌜ Treelike (now parents) × (length (now depths) ≡ 2047) ⌝ }
-    ensures { λ r. ⌜ Deep (now (parents .entry)) (now (depths .exit)) ⌝ }
-{
-    let n = parents.len();
-    depths[0] = 0;
-    let mut i: usize = 1;
-    while i < n {
-        let u = parents[i] as usize;
-        depths[i] = depths[u] + 1;
-        i += 1;
-    }
 }
 
 // 1 if the two numbers are the same, else 0.
@@ -124,8 +110,8 @@ pub fn count_history(
     requires { ⌜ Story (pair (now «species_parents») (now «species_taxa») (now «gene_parents») (now «gene_taxa»)) (now places) (now labels) ⌝ }
     ensures { λ r. ⌜ CountHistoryMeets (now («species_parents» .entry)) (now («species_taxa» .entry)) (now («gene_parents» .entry)) (now («gene_taxa» .entry)) (now (places .entry)) (now (labels .entry)) r ⌝ }
 {
-    let mut depths = [0u16; 2047];
-    fill_depths(species_parents, &mut depths);
+    let mut depths = [65535u16; 2047];
+    depths::fill_depths(species_parents, &mut depths);
     let sums = add_up(&depths, gene_parents, places, labels);
     Tally {
         duplications: sums.duplications,

@@ -8,7 +8,7 @@
 --   contentRules ..   == 16 to 18, of an image whose blocks are right
 --   openRules ..      == the rules that need no lent table: "rack's species 1-5, then 13-18"
 --   entryRules ..     == those and "7 for the four lent tables"
---   storyRules w h    == "gene 2, 3, 4, 6, then 8-11", of two trees and a history
+--   storyRules w h    == "gene 2, 3, 4, 6, then 8-11", with 38 after 2, of two trees and a history
 --   Contents, contentsOf w h == what an accepted load answers: p, q, and the duplications and losses of the stored history
 --   tableAfter e r q new old == what a lent table holds after the rulings e of the entry and r of the story:
 --                        unchanged; "the first q entries .. zero and the rest unchanged"; the first q entries new

@@ -11,10 +11,9 @@ use Rattle.trees.specs.Lists.{one}
 use Rattle.trees.specs.Trees.{none, up, Leaf, Inner, depth}
 use Rattle.trees.specs.Tables.{Pair, home, taxon}
 use Rattle.trees.specs.Sound.{Sound}
-use Rattle.trees.proofs.Lines.{up-at}
+use Rattle.trees.proofs.Lines.{up-at, depth-up}
 use Rattle.trees.proofs.Sound.{trees}
 use Rattle.histories.specs.Histories.{everyNode}
-use Rattle.histories.proofs.Leaves.{depth-up}
 use Rattle.fills.specs.Filling.{Filling, Kept, kindOf, Ready, Finished, Rising, Risen, Marked, Taking, FilledFrom}
 use Rattle.fills.specs.Promises.{Fillable}
 use Rattle.fills.proofs.Filling.{fill-start, fill-leaf, fill-inner, fill-root, fill-half, fill-done, fill-end, second, second-in}

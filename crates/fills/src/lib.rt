@@ -1,10 +1,13 @@
 // The fill of the least history: up from each gene leaf in turn, in the two lent tables alone. A node is finished when its second child
-// arrives; until then its label says how many have (3: none, 4: one). The leaves' places come first.
+// arrives; until then its label says how many have (3: none, 4: one). The leaves' places come first. `ordered`: the species table has
+// parents first, which is found out once.
 mod settling;
 
 ghost use mathlib.Core.Path.{_≡_};
 ghost use Prim.Native.Nat.{_≤_};
 ghost use lib.ListN.{length};
+ghost use lib.Dec.{T};
+ghost use Rattle.trees.specs.First.{ParentsFirst};
 ghost use Rattle.trees.specs.Tables.{pair};
 ghost use Rattle.fills.specs.Filling.{kindOf, Ready, Finished, Rising, Risen, Marked, Taking};
 ghost use Rattle.fills.specs.Promises.{Fillable, FillMeets};
@@ -32,15 +35,16 @@ fn finish(
     labels: &mut [u16],
     above: GeneNode,
     child: GeneNode,
+    ordered: bool,
 )
-    requires { ⌜ Ready (now «species_parents») (now places) (now labels) (above .0) (child .0) ⌝ }
+    requires { ⌜ Ready (now «species_parents») (now places) (now labels) (above .0) (child .0) × (T ordered → ParentsFirst (now «species_parents»)) ⌝ }
     ensures { λ r. ⌜ Finished (now («species_parents» .entry)) (above .0) (child .0) (now (places .entry)) (now (places .exit)) (now (labels .entry)) (now (labels .exit)) ⌝ }
 {
     let u = above.0;
     let v = child.0;
     let a = SpeciesNode(places[u] as usize);
     let b = SpeciesNode(places[v] as usize);
-    let m = meets::join(species_parents, a, b);
+    let m = meets::join(species_parents, a, b, ordered);
     places[u] = m.0 as u16;
     labels[u] = kind_of(m, a, b);
 }
@@ -55,8 +59,9 @@ fn go_up(
     places: &mut [u16],
     labels: &mut [u16],
     leaf: GeneNode,
+    ordered: bool,
 )
-    requires { ⌜ Rising (pair (now «species_parents») (now «species_taxa») (now «gene_parents») (now «gene_taxa»)) (leaf .0) (now places) (now labels) ⌝ }
+    requires { ⌜ Rising (pair (now «species_parents») (now «species_taxa») (now «gene_parents») (now «gene_taxa»)) (leaf .0) (now places) (now labels) × (T ordered → ParentsFirst (now «species_parents»)) ⌝ }
     ensures { λ r. ⌜ Risen (pair (now («species_parents» .entry)) (now («species_taxa» .entry)) (now («gene_parents» .entry)) (now («gene_taxa» .entry))) (leaf .0) (now (places .entry)) (now (places .exit)) (now (labels .entry)) (now (labels .exit)) ⌝ }
 {
     let q = gene_parents.len();
@@ -71,7 +76,14 @@ fn go_up(
             labels[u] = 4;
             return;
         }
-        finish(species_parents, places, labels, GeneNode(u), GeneNode(v));
+        finish(
+            species_parents,
+            places,
+            labels,
+            GeneNode(u),
+            GeneNode(v),
+            ordered,
+        );
         v = u;
     }
 }
@@ -97,8 +109,9 @@ fn take(
     places: &mut [u16],
     labels: &mut [u16],
     node: GeneNode,
+    ordered: bool,
 )
-    requires { ⌜ Taking (pair (now «species_parents») (now «species_taxa») (now «gene_parents») (now «gene_taxa»)) (node .0) (now places) (now labels) ⌝ }
+    requires { ⌜ Taking (pair (now «species_parents») (now «species_taxa») (now «gene_parents») (now «gene_taxa»)) (node .0) (now places) (now labels) × (T ordered → ParentsFirst (now «species_parents»)) ⌝ }
     ensures { λ r. ⌜ Risen (pair (now («species_parents» .entry)) (now («species_taxa» .entry)) (now («gene_parents» .entry)) (now («gene_taxa» .entry))) (node .0) (now (places .entry)) (now (places .exit)) (now (labels .entry)) (now (labels .exit)) ⌝ }
 {
     let k = node.0;
@@ -114,6 +127,7 @@ fn take(
         places,
         labels,
         node,
+        ordered,
     );
 }
 
@@ -129,6 +143,7 @@ pub fn fill(
     requires { ⌜ Fillable (pair (now «species_parents») (now «species_taxa») (now «gene_parents») (now «gene_taxa»)) (now places) (now labels) ⌝ }
     ensures { λ r. ⌜ FillMeets (pair (now («species_parents» .entry)) (now («species_taxa» .entry)) (now («gene_parents» .entry)) (now («gene_taxa» .entry))) (now (places .entry)) (now (labels .entry)) (now (places .exit)) (now (labels .exit)) ⌝ }
 {
+    let ordered = roots::in_order(species_parents);
     let q = gene_parents.len();
     settling::settle(species_taxa, gene_taxa, places);
     mark(labels, q);
@@ -142,6 +157,7 @@ pub fn fill(
             places,
             labels,
             GeneNode(k),
+            ordered,
         );
         k += 1;
     }

@@ -1,16 +1,15 @@
 -- The leaves below a node, the test of at-or-below, and the root: laws of one tree. Assumes nothing.
-use Prim.Native.Nat.{ℕ, _+_, _<_}
-use mathlib.Core.Path.{_≡_}
+use Prim.Native.Nat.{ℕ, _<_}
 use mathlib.Core.Logic.{_⊎_, inl, inr}
-use mathlib.Core.Bool.{Bool, _&&_}
+use mathlib.Core.Bool.{_&&_}
 use mathlib.Core.List.{List}
 use lib.ListN.{length}
 use lib.Dec.{T}
-use Rattle.trees.specs.Lists.{has, total, one}
-use Rattle.trees.specs.Trees.{up, Below, here, step, nodes, kid, Leaf, Inner, isLeaf, depth}
+use Rattle.trees.specs.Lists.{has}
+use Rattle.trees.specs.Trees.{Below, here, step, nodes, kid, Leaf, Inner, isLeaf}
 use Rattle.trees.proofs.Bools.{and-both, and-left, and-right}
 use Rattle.trees.proofs.Lists.{has-keep, keep-has}
-use Rattle.trees.proofs.Lines.{Grounded, line-in, on-line, off-line, trans, low-node, from-kids}
+use Rattle.trees.proofs.Lines.{Grounded, on-line, off-line, trans, low-node, from-kids}
 use Rattle.trees.proofs.Kids.{has-node, kid-first}
 use Rattle.trees.proofs.Sound.{leaf-is, is-leaf}
 use Rattle.histories.specs.Places.{below, leaves}
@@ -29,11 +28,6 @@ module _ {par : List ℕ} (G : Grounded par) where
   pub below-T : {a x : ℕ} → Below par a x → T (below par a x)
   unfolding below
   below-T b = on-line G b
-
-  -- one step up, one less deep if the parent is counted
-  pub depth-up : (counted : ℕ → Bool) (s : ℕ) → up par s < length par → depth par counted s ≡ one (counted (up par s)) + depth par counted (up par s)
-  unfolding depth total
-  depth-up counted s u = rw (line-in G (up par s) u)
 
   pub has-leaves : (g x : ℕ) → Leaf par x → Below par g x → T (has x (leaves par g))
   unfolding leaves

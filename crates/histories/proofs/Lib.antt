@@ -4,6 +4,7 @@ pub mod Labels
 pub mod Legal
 pub mod Sides
 pub mod Counts
+pub mod Renumber
 pub mod Bounds
 pub mod Beyond
 pub mod Demand

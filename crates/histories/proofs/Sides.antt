@@ -4,12 +4,13 @@ use native.Mathlib.Omega.{arith}
 use mathlib.Core.Path.{_≡_}
 use mathlib.Core.Logic.{inl, inr, _≢_}
 use mathlib.Core.Bool.{Bool}
+use mathlib.Core.List.{List}
 use lib.ListN.{length}
 use lib.Dec.{eqb}
 use Rattle.trees.specs.Lists.{one}
 use Rattle.trees.specs.Trees.{up, Below, here, kid, Inner, depth}
 use Rattle.trees.specs.Tables.{Pair}
-use Rattle.trees.specs.Sound.{Sound}
+use Rattle.trees.specs.Sound.{SoundTree, Sound}
 use Rattle.trees.proofs.Bools.{one-T}
 use Rattle.trees.proofs.Lines.{top-node, depth-le, depth-below}
 use Rattle.trees.proofs.Kids.{kid-first, kid-second, kid-order, either-kid, no-kid}
@@ -27,11 +28,9 @@ pub record Sided (w : Pair) (h : History) (g : ℕ) : Type 0 where
   pub in0 : Below (w .sp) s0 (h .at (kid (w .gp) g 0))
   pub in1 : Below (w .sp) s1 (h .at (kid (w .gp) g 1))
 
-module _ {w : Pair} (S : Sound w) where
-  -- a species node with something at or below one of its children is no leaf
-  inner-of : (s i y : ℕ) → s < length (w .sp) → Below (w .sp) (kid (w .sp) s i) y → Inner (w .sp) s
-  inner-of s i y l b =
-      elim (trees S .s-two s l) [ inl e ↦ absurd (omega (arith, trees S .s .fits, rw (no-kid (w .sp) s i e) at (top-node b))) | inr k ↦ k ]
+-- a species node with something at or below one of its children is no leaf
+pub inner-kid : {sp st : List ℕ} → SoundTree sp st → (s i y : ℕ) → s < length sp → Below sp (kid sp s i) y → Inner sp s
+inner-kid {sp} S s i y l b = elim (S .two s l) [ inl e ↦ absurd (omega (arith, S .few, rw (no-kid sp s i e) at (top-node b))) | inr k ↦ k ]
 
 module _ {w : Pair} (S : Sound w) {counted : ℕ → Bool} {h : History} (L : Legal w counted h) where
   pub sided : (g : ℕ) → g < length (w .gp) → h .kind g ≡ 1 → Sided w h g
@@ -39,7 +38,7 @@ module _ {w : Pair} (S : Sound w) {counted : ℕ → Bool} {h : History} (L : Le
       let s : ℕ = h .at g in
       elim (L .sides g l e) [
         | inl b ↦
-            let j = inner-of S s 0 (h .at (kid (w .gp) g 0)) (L .at-node g l) (b .0) in
+            let j = inner-kid (S .species .tree) s 0 (h .at (kid (w .gp) g 0)) (L .at-node g l) (b .0) in
             record {
               s0 = kid (w .sp) s 0;
               s1 = kid (w .sp) s 1;
@@ -50,7 +49,7 @@ module _ {w : Pair} (S : Sound w) {counted : ℕ → Bool} {h : History} (L : Le
               in1 = b .1;
             }
         | inr b ↦
-            let j = inner-of S s 1 (h .at (kid (w .gp) g 0)) (L .at-node g l) (b .0) in
+            let j = inner-kid (S .species .tree) s 1 (h .at (kid (w .gp) g 0)) (L .at-node g l) (b .0) in
             record {
               s0 = kid (w .sp) s 1;
               s1 = kid (w .sp) s 0;

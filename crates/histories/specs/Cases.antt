@@ -13,10 +13,10 @@ use mathlib.Core.List.{List, [], _∷_, map}
 use mathlib.Core.Option.{Option, none, some}
 use lib.ListN.{length, replicate}
 use Rattle.trees.specs.Lists.{range, consIf, keepIf, has, all, any, pick, first, total, one, lowest}
-use Rattle.trees.specs.Trees.{up, climb, line, nodes, kids, kid, isLeaf, depth}
+use Rattle.trees.specs.Trees.{up, isRoot, climb, line, nodes, kids, kid, isLeaf, depth}
 use Rattle.trees.specs.Tables.{Pair, pair, carrier, home}
 use Rattle.trees.specs.Rulings.{Ruling, accepted, refused, ruling}
-use Rattle.trees.specs.Rules.{sized, ordered, paired, marked, fresh, known, shapeRules, speciesRules, familyRules, geneRules, pairRules}
+use Rattle.trees.specs.Rules.{sized, parented, topped, reaching, paired, marked, fresh, known, rootRules, childRules, shapeRules, speciesRules, familyRules, geneRules, pairRules}
 use Rattle.histories.specs.Places.{below, leaves, holds, place}
 use Rattle.histories.specs.Histories.{label, leastPlaces, leastLabels, edge, lossesAt, losses, climbsAt, climbs, duplications, speciations, cost}
 use Rattle.histories.specs.Dating.{Dated, between, latest, dated}
@@ -92,5 +92,5 @@ starred =
     ∷ []
 
 pub starred-right : map answer starred ≡ map expected starred
-unfolding answer answerTo expected named counts legal starred range consIf keepIf has all any first total one lowest up climb line nodes kids kid isLeaf depth carrier home pick ruling sized ordered paired marked fresh known shapeRules speciesRules familyRules geneRules pairRules below leaves holds place label leastPlaces leastLabels edge lossesAt losses climbsAt climbs duplications speciations cost latest dated roomy placed rightKind fitting homed nested apart parted descentRules leastRules offerRules datingRules leastCounts offerCounts leastRuling offerRuling datingRuling
+unfolding answer answerTo expected named counts legal starred range consIf keepIf has all any first total one lowest up isRoot climb line nodes kids kid isLeaf depth carrier home pick ruling sized parented topped reaching paired marked fresh known rootRules childRules shapeRules speciesRules familyRules geneRules pairRules below leaves holds place label leastPlaces leastLabels edge lossesAt losses climbsAt climbs duplications speciations cost latest dated roomy placed rightKind fitting homed nested apart parted descentRules leastRules offerRules datingRules leastCounts offerCounts leastRuling offerRuling datingRuling
 starred-right = refl

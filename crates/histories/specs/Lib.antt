@@ -2,6 +2,7 @@ pub mod Places
 pub mod Histories
 pub mod Dating
 pub mod Legal
+pub mod Renumber
 pub mod Lifts
 pub mod Rules
 pub mod Cases

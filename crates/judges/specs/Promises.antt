@@ -1,7 +1,7 @@
 -- What the judges promise: the first rule of 01's order that fails, at its lowest node, else `Sound`.
---   JudgeSpeciesMeets sp st r <-> of the species rules 1 to 5
---   JudgeFamilyMeets w r      <-> of the gene rules 2, 3, 4 and 6
---   JudgePairMeets w r        <-> of the species rules, then the gene rules 1, 2, 3, 4, 6
+--   JudgeSpeciesMeets sp st r <-> of the species rules 1, 2, 38, 3, 4 and 5
+--   JudgeFamilyMeets w r      <-> of the gene rules 2, 38, 3, 4 and 6
+--   JudgePairMeets w r        <-> of the species rules, then the gene rules 1, 2, 38, 3, 4, 6
 -- Assumes nothing.
 use Prim.Native.Nat.{ℕ}
 use mathlib.Core.Path.{_≡_}

@@ -1,7 +1,7 @@
 // The judges: are these two tables a species tree; are these two a gene tree on it?
 //
-// Each answers `Sound`, or the first refusal of 01's order: species 1 to 5, gene 1, 2, 3, 4, 6, each number over the whole
-// table before the next. Nothing is asked of a caller of `judge_species`, `judge_pair` and `judge_rack`, and nothing is lent.
+// Each answers `Sound`, or the first refusal of 01's order: species 1 to 5, gene 1, 2, 3, 4, 6, with 38 after 2 in both, each number over
+// the whole table before the next. Nothing is asked of a caller of `judge_species`, `judge_pair` and `judge_rack`, and nothing is lent.
 //
 // There are two ways to one answer. `judge_species` and `judge_pair`, which the rack calls, need one table of a kilobyte, lent to each
 // rule in turn: child counts in two bits a node, and taxa looked up by rounds of hints. `judge_rack` and `judge_family` serve the
@@ -32,7 +32,7 @@ fn sized_tables(parents: &[u16], taxa: &[u32]) -> bool
 }
 
 // Species parents and taxa, with a lent table of 512 entries that may hold anything before and after: `Sound`, or the first of
-// refusals 1 to 5.
+// refusals 1, 2, 38, 3, 4 and 5.
 fn judge_species_in(species_parents: &[u16], species_taxa: &[u32], table: &mut [u16]) -> Judged
     requires { ⌜ length (now table) ≡ 512 ⌝ }
     ensures { λ r. ⌜ JudgeSpeciesMeets (now («species_parents» .entry)) (now («species_taxa» .entry)) r ⌝ }
@@ -47,7 +47,7 @@ fn judge_species_in(species_parents: &[u16], species_taxa: &[u32], table: &mut [
     rounds::judge_repeats(species_taxa, table)
 }
 
-// Species parents and taxa: `Sound`, or the first of refusals 1 to 5.
+// Species parents and taxa: `Sound`, or the first of refusals 1, 2, 38, 3, 4 and 5.
 pub fn judge_species(species_parents: &[u16], species_taxa: &[u32]) -> Judged
     ensures { λ r. ⌜ JudgeSpeciesMeets (now («species_parents» .entry)) (now («species_taxa» .entry)) r ⌝ }
 {
@@ -69,7 +69,8 @@ pub fn judge_rack(species_parents: &[u16], species_taxa: &[u32]) -> Judged
     taxa::judge_repeats(species_taxa)
 }
 
-// Gene parents and taxa of a right size, on sound species tables, with a lent table: `Sound`, or the first of refusals 2, 3, 4 and 6.
+// Gene parents and taxa of a right size, on sound species tables, with a lent table: `Sound`, or the first of refusals 2, 38, 3, 4
+// and 6.
 fn judge_genes(
     species_parents: &[u16],
     species_taxa: &[u32],
@@ -110,7 +111,7 @@ pub fn judge_family(
 }
 
 // Species tables, then gene tables on them, with a lent table of 512 entries that may hold anything before and after: `Sound`, or the
-// first of species 1 to 5 and gene 1, 2, 3, 4, 6. For a caller that has a use for the table itself.
+// first of species 1 to 5 and gene 1, 2, 3, 4, 6, with 38 after 2. For a caller that has a use for the table itself.
 pub fn judge_pair_in(
     species_parents: &[u16],
     species_taxa: &[u32],
@@ -137,7 +138,8 @@ pub fn judge_pair_in(
     )
 }
 
-// Species tables, then gene tables on them: `Sound`, or the first of species 1 to 5 and gene 1, 2, 3, 4, 6.
+// Species tables, then gene tables on them: `Sound`, or the first of species 1 to 5 and gene 1, 2, 3, 4, 6, with 38
+// after 2.
 pub fn judge_pair(
     species_parents: &[u16],
     species_taxa: &[u32],

@@ -1,7 +1,7 @@
 -- The rules by which an image is judged where no table is lent.
 --   tableRules sp st t  == the gene rules and the rules of descent, of four tables on a rack
 --   storedRules sp st s == the same, of the tables in an image
---   imageRules sp st s  == all of a load but 7: "rack's species 1-5, then 13-18 .. then gene 2, 3, 4, 6, then 8-11"
+--   imageRules sp st s  == all of a load but 7: "rack's species 1-5, then 13-18 .. then gene 2, 3, 4, 6, then 8-11", with 38 after 2
 --   plain r             == a ruling without its value: sound, or number, tree and place
 -- Assumes nothing.
 use Prim.Native.Nat.{ℕ}

@@ -13,7 +13,7 @@ use loading::tables;
 use opening::Opened;
 use trees::Judged;
 
-// The gene rules 2, 3, 4, 6 and the rules of descent 8 to 11, of tables of one right size on a sound rack. The places themselves tell
+// The gene rules 2, 38, 3, 4, 6 and the rules of descent 8 to 11, of tables of one right size on a sound rack. The places themselves tell
 // where each leaf's taxon stands among the species; only where they do not, 6 and 9 are looked for.
 fn judge_tables(
     species_parents: &[u16],

@@ -35,7 +35,7 @@ pub enum Loaded {
     Refused(Refusal),
 }
 
-// The gene rules 2, 3, 4, 6 and the rules of descent 8 to 11, on a sound rack and tables of one right size.
+// The gene rules 2, 38, 3, 4, 6 and the rules of descent 8 to 11, on a sound rack and tables of one right size.
 fn judge_story(
     species_parents: &[u16],
     species_taxa: &[u32],
@@ -161,7 +161,7 @@ fn load_opened(
 }
 
 // The image of a family, on a rack with these species tables, into the first entries of the four lent tables. Refusals: the rack's
-// species 1 to 5, then 13 to 18, then 7 for the lent tables; these leave the tables as they were. Then gene 2, 3, 4, 6 and 8 to 11;
+// species 1 to 5, then 13 to 18, then 7 for the lent tables; these leave the tables as they were. Then gene 2, 38, 3, 4, 6 and 8 to 11;
 // these leave the first q entries of the four tables zero, q the image's count of gene nodes, and the rest as it was.
 pub fn load_image(
     species_parents: &[u16],

@@ -12,6 +12,7 @@ use lib.Dec.{eqb}
 use borrow.Author.Tests.{eq-eqb, ne-eqb, lt-ltb, le-ltb}
 use Rattle.trees.specs.Lists.{range, keepIf, total, pick}
 use Rattle.trees.specs.Trees.{up, Below, kids, nodes, kid}
+use Rattle.trees.specs.First.{ParentsFirst}
 use Rattle.trees.specs.Sound.{SoundTree}
 use Rattle.trees.specs.Rulings.{accepted, each, verdict, fine, done, and}
 use Rattle.trees.proofs.Rulings.{ruling-passes}
@@ -109,15 +110,24 @@ module _ (gp pl start turn : List ℕ) where
   added-other g c n = added-more g c ∙ rw (ne-eqb (up gp c) g n) (omega arith)
 
 module _ {gp pl start run turn sides : List ℕ} (C : Codable gp pl start run turn sides) where
-  -- the root has no parent
-  pub coding-start : Coding gp pl start run turn 1 sides
+  pub coding-start : Coding gp pl start run turn 0 sides
   coding-start =
       record {
         sides-room = C .sides-room;
         small = λ g h. omega (arith, C .zeros g h);
         within = λ k a b. absurd (omega arith);
-        at = λ g h. C .zeros g h ∙ sym (added-other gp pl start turn g 0 (omega (arith, C .genes .1 .top, C .genes .1 .few)) ∙ added-none gp pl start turn g);
+        at = λ g h. C .zeros g h ∙ sym (added-none gp pl start turn g);
       }
+
+-- the root has no parent
+pub coding-skip : {gp pl start run turn : List ℕ} (c : ℕ) {sides : List ℕ} → Coding gp pl start run turn c sides → c < length gp → length gp ≤ getD gp c 0 → Coding gp pl start run turn (c + 1) sides
+coding-skip {gp} {pl} {start} {run} {turn} c D h b =
+    record {
+      sides-room = D .sides-room;
+      small = λ g x. omega (arith, D .small g x);
+      within = λ k a y. elim (ℕ-discrete k c) [ yes z ↦ absurd (omega (arith, ap (λ m. getD gp m 0) z)) | no n ↦ D .within k (omega arith) y ];
+      at = λ g x. D .at g x ∙ sym (added-other gp pl start turn g c (omega (arith, up-at gp c h)));
+    }
 
 module _ {gp pl start run turn : List ℕ} (c : ℕ) {sides : List ℕ} (D : Coding gp pl start run turn c sides) (h : c < length gp) (b : getD gp c 0 < length gp) where
   pub coding-turn : (d v : ℕ) → d ≡ farOf gp pl start c → d < getD run (getD pl (getD gp c 0) 0) 0 → v ≡ sideCode d (getD turn (getD pl (getD gp c 0) 0) 0) → v ≤ 2
@@ -135,7 +145,7 @@ module _ {gp pl start run turn : List ℕ} (c : ℕ) {sides : List ℕ} (D : Cod
         ];
         within = λ k a y. elim (ℕ-discrete k c) [
           | yes z ↦ rw (z, ← e) l
-          | no n ↦ D .within k a (omega arith)
+          | no n ↦ D .within k (omega arith) y
         ];
         at = λ g x. elim (ℕ-discrete g u) [
           | yes z ↦ rw z (same ∙ omega (arith, D .at u b, f, ap (λ m. sideCode m (getD turn (getD pl u 0) 0)) e, rw p at (added-child gp pl start turn c)))
@@ -159,10 +169,9 @@ module _ {sp st gp gt pl start run turn sides : List ℕ} (S : SoundTree sp st) 
       → (aheadOf (getD start (getD pl c 0) 0) (getD start (getD pl g 0) 0) + getD start (getD pl g 0) 0 ≡ getD start (getD pl c 0) 0)
       × Below sp (getD pl g 0) (getD pl c 0)
   far-below c g l e h =
-      let z : 0 < c = elim (ℕ-discrete c 0) [ yes z ↦ absurd (omega (arith, G .top, G .few, ap (up gp) z)) | no n ↦ omega arith ] in
       let a = getD pl g 0 in
       let x = getD pl c 0 in
-      let w : aheadOf (getD start x 0) (getD start a 0) < getD run a 0 = rw (← up-at gp c l, e) at (C .within c z l) in
+      let w : aheadOf (getD start x 0) (getD start a 0) < getD run a 0 = rw (← up-at gp c l, e) at (C .within c l (omega (arith, e, up-at gp c l))) in
       let f : aheadOf (getD start x 0) (getD start a 0) + getD start a 0 ≡ getD start x 0 =
       ahead-is (getD start x 0) (getD start a 0) (getD run a 0) (omega (arith, L .small x (P c l))) (omega (arith, L .small a (P g h))) (omega (arith, L .small a (P g h))) w in
       (f, inside-below S L a x (P g h) (P c l) (omega arith) (omega arith))
@@ -203,10 +212,11 @@ module _ {sp st gp gt pl start run turn sides : List ℕ} (S : SoundTree sp st) 
 -- ---- the tables at first
 
 module _ {sp gp pl lb : List ℕ} (Q : Nestable sp gp pl lb) (n : ℕ) where
-  pub unshared-start : length sp ≤ n → Unshared sp (replicate n 0) (replicate n 1) (replicate n 0)
-  unshared-start a =
+  pub unshared-start : ParentsFirst sp → length sp ≤ n → Unshared sp (replicate n 0) (replicate n 1) (replicate n 0)
+  unshared-start F a =
       record {
         tree = Q .species;
+        first = F;
         off-room = omega (arith, length-replicate {A = ℕ} n 0);
         run-room = omega (arith, length-replicate {A = ℕ} n 1);
         turn-room = omega (arith, length-replicate {A = ℕ} n 0);

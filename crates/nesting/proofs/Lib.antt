@@ -1,4 +1,5 @@
 pub mod Runs
 pub mod Subtrees
 pub mod Codes
+pub mod Moving
 pub mod One

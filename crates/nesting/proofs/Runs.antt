@@ -10,6 +10,7 @@ use lib.ListN.{length, getD, set, length-set}
 use lib.Seq.{getD-set-same, getD-set-other}
 use Rattle.trees.specs.Lists.{range, total}
 use Rattle.trees.specs.Trees.{up}
+use Rattle.trees.specs.First.{ParentsFirst}
 use Rattle.trees.specs.Sound.{SoundTree}
 use Rattle.trees.proofs.Lists.{has-range, total-more, total-member}
 use Rattle.trees.proofs.Lines.{up-at, parent-in}
@@ -64,7 +65,7 @@ shared-start {par} {off} {run} {turn} U =
       turned = λ j a b. absurd (omega arith);
     }
 
-module _ {par tax : List ℕ} (S : SoundTree par tax) where
+module _ {par tax : List ℕ} (S : SoundTree par tax) (F : ParentsFirst par) where
   -- one node more gets its part: the nodes from m on have it, and i is the one before them
   module _ (i : ℕ) {m : ℕ} {off run turn : List ℕ} (e : m ≡ i + 1) (a : 0 < i) (b : i < length par) (D : Shared par m off run turn) where
     whole : sum run i + getD run i 0 ≡ length par
@@ -79,12 +80,12 @@ module _ {par tax : List ℕ} (S : SoundTree par tax) where
     -- the two runs together are at most all positions
     pub shared-fits : s + getD run i 0 ≤ 2047
     shared-fits =
-        let l : u < i = parent-in par i b (S .order i a b) in
+        let l : u < i = parent-in par i b (F .order i a b) in
         omega (arith, S .few, whole, total-member (λ j. getD run j 0) u (range 0 i) (has-range 0 i u (omega arith) (omega arith)))
 
     pub shared-turn : Shared par i (set off i s) (set run u (s + getD run i 0)) (set turn u s)
     shared-turn =
-        let l : u < i = parent-in par i b (S .order i a b) in
+        let l : u < i = parent-in par i b (F .order i a b) in
         let R : length par ≤ length run = D .run-room in
         let v : ℕ = s + getD run i 0 in
         let off-here : getD (set off i s) i 0 ≡ s = getD-set-same off i s 0 (omega (arith, D .off-room)) in
@@ -128,7 +129,7 @@ module _ {par tax : List ℕ} (S : SoundTree par tax) where
 pub settling-start : (par off : List ℕ) → getD off 0 0 ≡ 0 → Settling par 1 off off
 settling-start par off e = record { size = refl; top = e; at = λ j a b. absurd (omega arith); rest = λ j a. refl }
 
-module _ {par tax : List ℕ} (S : SoundTree par tax) where
+module _ {par tax : List ℕ} (S : SoundTree par tax) (F : ParentsFirst par) where
   module _ {off start : List ℕ} (i : ℕ) (a : 0 < i) (b : i < length par) (r : length par ≤ length off) (D : Settling par i off start) where
     pub settling-turn : Settling par (i + 1) off (set start i (getD start i 0 + getD start (getD par i 0) 0))
     settling-turn =
@@ -139,8 +140,8 @@ module _ {par tax : List ℕ} (S : SoundTree par tax) where
           size = length-set start i v ∙ D .size;
           top = else 0 (omega arith) ∙ D .top;
           at = λ j x y. elim (ℕ-discrete j i) [
-            | yes z ↦ rw z (omega (arith, here, else (getD par i 0) (omega (arith, parent-in par i b (S .order i a b))), D .rest i (omega arith)))
-            | no n ↦ omega (arith, else j n, else (getD par j 0) (omega (arith, parent-in par j (omega arith) (S .order j x (omega arith)))), D .at j x (omega arith))
+            | yes z ↦ rw z (omega (arith, here, else (getD par i 0) (omega (arith, parent-in par i b (F .order i a b))), D .rest i (omega arith)))
+            | no n ↦ omega (arith, else j n, else (getD par j 0) (omega (arith, parent-in par j (omega arith) (F .order j x (omega arith)))), D .at j x (omega arith))
           ];
           rest = λ j x. else j (omega arith) ∙ D .rest j (omega arith);
         }
@@ -157,7 +158,7 @@ module _ {par tax : List ℕ} (S : SoundTree par tax) where
           elim (ℕ-discrete j 0) [
             | yes z ↦ rw z (omega (arith, D .top, run-whole))
             | no n ↦
-                let u : getD par j 0 < j = parent-in par j (omega arith) (S .order j (omega arith) (omega arith)) in
+                let u : getD par j 0 < j = parent-in par j (omega arith) (F .order j (omega arith) (omega arith)) in
                 omega (arith, D .at j (omega arith) y, H .inside j (omega arith) (omega arith), within-fuel k (getD par j 0) (omega arith) (omega arith))
           ]
 
@@ -167,7 +168,7 @@ module _ {par tax : List ℕ} (S : SoundTree par tax) where
 
       pub settling-fits : 0 < i → i < length par → getD start i 0 + getD start (getD par i 0) 0 ≤ 2047
       settling-fits a y =
-          let u : getD par i 0 < i = parent-in par i y (S .order i a y) in
+          let u : getD par i 0 < i = parent-in par i y (F .order i a y) in
           omega (arith, S .few, D .rest i (omega arith), H .inside i (omega arith) y, within-whole (getD par i 0) u)
 
     -- what the two loops give together
@@ -175,6 +176,7 @@ module _ {par tax : List ℕ} (S : SoundTree par tax) where
     laid {start} D =
         let at : (j : ℕ) → 0 < j → j < length par → getD start j 0 ≡ getD start (up par j) 0 + getD off j 0 = (λ j a b. rw (up-at par j b) (D .at j a b)) in
         record {
+          first = F;
           start-room = omega (arith, D .size, H .off-room);
           run-room = H .run-room;
           turn-room = H .turn-room;

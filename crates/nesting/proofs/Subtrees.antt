@@ -18,7 +18,7 @@ use Rattle.nesting.specs.Runs.{Laid}
 module _ {par tax : List ℕ} (S : SoundTree par tax) {start run turn : List ℕ} (L : Laid par start run turn) where
   -- a node with a parent is not the root
   not-root : (x g : ℕ) → up par x ≡ g → g < length par → 0 < x
-  not-root x g e h = elim (ℕ-discrete x 0) [ yes z ↦ absurd (omega (arith, S .top, S .few, ap (up par) z)) | no n ↦ omega arith ]
+  not-root x g e h = elim (ℕ-discrete x 0) [ yes z ↦ absurd (omega (arith, L .first .top, S .few, ap (up par) z)) | no n ↦ omega arith ]
 
   -- further down, a run inside the run
   run-below : {a x : ℕ} → Below par a x → (getD start a 0 ≤ getD start x 0) × (getD start x 0 + getD run x 0 ≤ getD start a 0 + getD run a 0)

@@ -45,7 +45,7 @@ pub record Codable (gp pl start run turn sides : List ℕ) : Type 0 where
 pub record Coding (gp pl start run turn : List ℕ) (c : ℕ) (sides : List ℕ) : Type 0 where
   pub sides-room : length gp ≤ length sides
   pub small : (g : ℕ) → g < length gp → getD sides g 0 ≤ 2 * c
-  pub within : (k : ℕ) → 0 < k → k < c → farOf gp pl start k < getD run (getD pl (getD gp k 0) 0) 0
+  pub within : (k : ℕ) → k < c → getD gp k 0 < length gp → farOf gp pl start k < getD run (getD pl (getD gp k 0) 0) 0
   pub at : (g : ℕ) → g < length gp → getD sides g 0 ≡ total (childCode gp pl start turn) (keepIf (λ j. eqb (up gp j) g) (range 0 c))
 
 abbrev pub Coded : List ℕ → List ℕ → List ℕ → List ℕ → List ℕ → List ℕ → Type 0

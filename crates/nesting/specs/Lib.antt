@@ -1,3 +1,4 @@
 pub mod Runs
 pub mod Codes
+pub mod Moving
 pub mod Promises

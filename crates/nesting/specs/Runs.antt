@@ -1,4 +1,4 @@
--- Private to the quick test: positions of the nodes of a tree, so that a node and all below it have a run of positions that starts
+-- Private to the quick test: positions of the nodes of a tree with parents first, so that a node and all below it have a run of positions that starts
 -- with the node's own; nothing of it is part of a promise.
 --   Unshared par off run turn <-> no run is shared out yet: each node's has length 1, for itself alone
 --   Shared par i off run turn <-> the nodes from i on have their part of their parent's run: run j positions, off j after its start
@@ -15,10 +15,12 @@ use mathlib.Core.List.{List}
 use lib.ListN.{length, getD}
 use Rattle.trees.specs.Lists.{range, total}
 use Rattle.trees.specs.Trees.{up}
+use Rattle.trees.specs.First.{ParentsFirst}
 use Rattle.trees.specs.Sound.{Treelike}
 
 pub record Unshared (par off run turn : List ℕ) : Type 0 where
   pub tree : Treelike par
+  pub first : ParentsFirst par
   pub off-room : length par ≤ length off
   pub run-room : length par ≤ length run
   pub turn-room : length par ≤ length turn
@@ -39,7 +41,7 @@ pub record Shared (par : List ℕ) (i : ℕ) (off run turn : List ℕ) : Type 0 
   pub turned : (j : ℕ) → i ≤ j → j < length par → (getD turn (getD par j 0) 0 ≤ getD off j 0) ⊎ (getD off j 0 + getD run j 0 ≤ getD turn (getD par j 0) 0)
 
 abbrev pub Offsets : List ℕ → List ℕ → Type 0
-Offsets par off = Treelike par × ((run : List ℕ) × (turn : List ℕ) × Shared par 1 off run turn)
+Offsets par off = Treelike par × ((run : List ℕ) × (turn : List ℕ) × Shared par 1 off run turn) × ParentsFirst par
 
 pub record Settling (par : List ℕ) (i : ℕ) (off start : List ℕ) : Type 0 where
   pub size : length start ≡ length off
@@ -51,6 +53,7 @@ abbrev pub Settled : List ℕ → List ℕ → List ℕ → Type 0
 Settled par off start = Settling par (length par) off start
 
 pub record Laid (par start run turn : List ℕ) : Type 0 where
+  pub first : ParentsFirst par
   pub start-room : length par ≤ length start
   pub run-room : length par ≤ length run
   pub turn-room : length par ≤ length turn

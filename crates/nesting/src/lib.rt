@@ -5,10 +5,12 @@ mod positions;
 ghost use mathlib.Core.Path.{_≡_};
 ghost use mathlib.Core.Logic.{_↔_};
 ghost use Prim.Native.Nat.{ℕ, _≤_, _<_};
-ghost use lib.ListN.{length};
+ghost use lib.ListN.{length, getD, take};
 ghost use lib.Dec.{T};
+ghost use Rattle.trees.specs.First.{ParentsFirst};
 ghost use Rattle.sides.specs.Promises.{Nestable};
 ghost use Rattle.nesting.specs.Codes.{aheadOf, sideCode, Codable, Coded, SplitAt, Spread, Nests};
+ghost use Rattle.nesting.specs.Moving.{Movable, Moved, Placeable, Put, Copied};
 ghost use Rattle.nesting.specs.Promises.{JudgeNestingMeets};
 use trees::Judged;
 
@@ -43,17 +45,21 @@ fn all_inside(
     ensures { λ r. ⌜ (T r → Coded (now («gene_parents» .entry)) (now (places .entry)) (now (starts .entry)) (now (runs .entry)) (now (turns .entry)) (now (sides .exit))) ⌝ }
 {
     let q = gene_parents.len();
-    let mut c: usize = 1;
+    let mut c: usize = 0;
     while c < q {
         let u = gene_parents[c] as usize;
-        let a = places[u] as usize;
-        let x = places[c] as usize;
-        let d = ahead_of(starts[x], starts[a]);
-        if runs[a] <= d {
-            return false;
+        if q <= u {
+            c += 1;
+        } else {
+            let a = places[u] as usize;
+            let x = places[c] as usize;
+            let d = ahead_of(starts[x], starts[a]);
+            if runs[a] <= d {
+                return false;
+            }
+            sides[u] = sides[u] + side_code(d, turns[a]);
+            c += 1;
         }
-        sides[u] = sides[u] + side_code(d, turns[a]);
-        c += 1;
     }
     true
 }
@@ -105,7 +111,7 @@ fn nested_small(
     places: &[u16],
     labels: &[u16],
 ) -> bool
-    requires { ⌜ Nestable (now «species_parents») (now «gene_parents») (now places) (now labels) × (length (now «species_parents») ≤ 255) × (length (now «gene_parents») ≤ 255) ⌝ }
+    requires { ⌜ Nestable (now «species_parents») (now «gene_parents») (now places) (now labels) × (length (now «species_parents») ≤ 255) × (length (now «gene_parents») ≤ 255) × ParentsFirst (now «species_parents») ⌝ }
     ensures { λ r. ⌜ (T r → Nests (now («species_parents» .entry)) (now («gene_parents» .entry)) (now (places .entry)) (now (labels .entry))) ⌝ }
 {
     let mut starts = [0u16; 255];
@@ -131,7 +137,7 @@ fn nested_large(
     places: &[u16],
     labels: &[u16],
 ) -> bool
-    requires { ⌜ Nestable (now «species_parents») (now «gene_parents») (now places) (now labels) ⌝ }
+    requires { ⌜ Nestable (now «species_parents») (now «gene_parents») (now places) (now labels) × ParentsFirst (now «species_parents») ⌝ }
     ensures { λ r. ⌜ (T r → Nests (now («species_parents» .entry)) (now («gene_parents» .entry)) (now (places .entry)) (now (labels .entry))) ⌝ }
 {
     let mut starts = [0u16; 2047];
@@ -150,7 +156,109 @@ fn nested_large(
     )
 }
 
-// Do rules 10 and 11 hold everywhere? A yes is certain. Most trees are small, and for them small tables are made.
+// The places by the positions of the species nodes, into a table of as many entries as there are gene nodes.
+fn move_places(spots: &[u16], places: &[u16], moved: &mut [u16])
+    requires { ⌜ Movable (now spots) (now places) (now moved) ⌝ }
+    ensures { λ r. ⌜ Moved (now (spots .entry)) (now (places .entry)) (now (moved .exit)) ⌝ }
+{
+    let q = moved.len();
+    let mut g: usize = 0;
+    while g < q {
+        let s = places[g] as usize;
+        moved[g] = spots[s];
+        g += 1;
+    }
+}
+
+// A table with zeros alone.
+fn clear(table: &mut [u16])
+    requires { ⌜ length (now table) ≡ 2047 ⌝ }
+    ensures { λ r. ⌜ ((k : ℕ) → k < 2047 → getD (now (table .exit)) k 0 ≡ 0) ⌝ }
+{
+    let n = table.len();
+    let mut k: usize = 0;
+    while k < n {
+        table[k] = 0;
+        k += 1;
+    }
+}
+
+// Puts a copy of a species table in order, and the places with it; the last two tables are used on the way.
+fn put_in_order(
+    species_parents: &[u16],
+    places: &[u16],
+    copy: &mut [u16],
+    moved: &mut [u16],
+    spots: &mut [u16],
+    way: &mut [u16],
+)
+    requires { ⌜ Placeable (now «species_parents») (now places) (now copy) (now moved) (now spots) (now way) ⌝ }
+    ensures { λ r. ⌜ Put (now («species_parents» .entry)) (now (places .entry)) (now (copy .exit)) (now (moved .exit)) ⌝ }
+{
+    orders::order(species_parents, spots, copy, way);
+    move_places(spots, places, moved);
+}
+
+// The quick test for a species table of p nodes with parents first, whose memory then serves for the sides.
+fn nested_copy(
+    copy: &mut [u16],
+    p: usize,
+    gene_parents: &[u16],
+    moved: &[u16],
+    labels: &[u16],
+    starts: &mut [u16],
+    runs: &mut [u16],
+    turns: &mut [u16],
+) -> bool
+    requires { ⌜ Copied (now copy) p (now «gene_parents») (now moved) (now labels) (now starts) (now runs) (now turns) ⌝ }
+    ensures { λ r. ⌜ (T r → Nests (take p (now (copy .entry))) (now («gene_parents» .entry)) (now (moved .entry)) (now (labels .entry))) ⌝ }
+{
+    starts[0] = 0;
+    positions::place_nodes(&copy[..p], starts, runs, turns);
+    clear(copy);
+    all_nested(gene_parents, moved, labels, starts, runs, turns, copy)
+}
+
+// The quick test for a species table in any order: a copy of it is put in order. Three of the five tables on the stack, 20,470 bytes in
+// all, serve twice.
+fn nested_shuffled(
+    species_parents: &[u16],
+    gene_parents: &[u16],
+    places: &[u16],
+    labels: &[u16],
+) -> bool
+    requires { ⌜ Nestable (now «species_parents») (now «gene_parents») (now places) (now labels) ⌝ }
+    ensures { λ r. ⌜ (T r → Nests (now («species_parents» .entry)) (now («gene_parents» .entry)) (now (places .entry)) (now (labels .entry))) ⌝ }
+{
+    let p = species_parents.len();
+    let q = gene_parents.len();
+    let mut copy = [0u16; 2047];
+    let mut moved = [0u16; 2047];
+    let mut starts = [0u16; 2047];
+    let mut runs = [1u16; 2047];
+    let mut turns = [65535u16; 2047];
+    put_in_order(
+        species_parents,
+        places,
+        &mut copy[..p],
+        &mut moved[..q],
+        &mut turns[..p],
+        &mut starts[..p],
+    );
+    nested_copy(
+        &mut copy,
+        p,
+        gene_parents,
+        &moved[..q],
+        labels,
+        &mut starts,
+        &mut runs,
+        &mut turns,
+    )
+}
+
+// Do rules 10 and 11 hold everywhere? A yes is certain. Most trees are small, and for them small tables are made. A small release in
+// any order, and a large one with few genes, it is not worth while to put in order: no is said at once, and the searches do the rest.
 fn surely_nested(
     species_parents: &[u16],
     gene_parents: &[u16],
@@ -160,11 +268,16 @@ fn surely_nested(
     requires { ⌜ Nestable (now «species_parents») (now «gene_parents») (now places) (now labels) ⌝ }
     ensures { λ r. ⌜ (T r → Nests (now («species_parents» .entry)) (now («gene_parents» .entry)) (now (places .entry)) (now (labels .entry))) ⌝ }
 {
-    if species_parents.len() <= 255 && gene_parents.len() <= 255 {
-        nested_small(species_parents, gene_parents, places, labels)
-    } else {
-        nested_large(species_parents, gene_parents, places, labels)
+    if roots::in_order(species_parents) {
+        if species_parents.len() <= 255 && gene_parents.len() <= 255 {
+            return nested_small(species_parents, gene_parents, places, labels);
+        }
+        return nested_large(species_parents, gene_parents, places, labels);
     }
+    if species_parents.len() <= 255 || 8 * gene_parents.len() < species_parents.len() {
+        return false;
+    }
+    nested_shuffled(species_parents, gene_parents, places, labels)
 }
 
 // Rules 10 and 11, where rule 8 holds: refused at the lowest gene node that is not at or below its parent's place, else at the lowest

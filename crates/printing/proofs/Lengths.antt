@@ -1,19 +1,19 @@
 -- How long the text of a sound pair can be: a tree of n nodes has (n - 1) / 2 inner nodes, whose taxa are a single 0.
 -- Assumes nothing.
-use Prim.Native.Nat.{ℕ, suc, _+_, _*_, _^_, _≤_, _<_}
+use Prim.Native.Nat.{ℕ, zero, suc, _+_, _*_, _^_, _≤_, _<_}
 use native.Mathlib.Omega.{arith}
 use native.Mathlib.Nat.{mul-suc, zero-add}
 use mathlib.Core.Path.{_≡_}
-use mathlib.Core.Logic.{inl, inr}
+use mathlib.Core.Logic.{inl, inr, _≢_}
 use mathlib.Core.Bool.{Bool, not}
 use mathlib.Core.List.{List, [], _∷_, _++_}
 use lib.ListN.{length, getD}
 use Rattle.trees.specs.Lists.{range, total, one}
-use Rattle.trees.specs.Trees.{none, up, nodes, isLeaf}
+use Rattle.trees.specs.Trees.{nodes, isLeaf}
 use Rattle.trees.specs.Tables.{taxon, Pair}
 use Rattle.trees.specs.Sound.{SoundTree, Sound}
 use Rattle.trees.proofs.Bools.{T-true}
-use Rattle.trees.proofs.Lists.{getD-any}
+use Rattle.trees.proofs.Lines.{up-at}
 use Rattle.trees.proofs.Kids.{Rooted}
 use Rattle.trees.proofs.Sound.{trees, is-leaf, not-leaf}
 use Rattle.trees.proofs.Shape.{inners, inner-count}
@@ -32,6 +32,20 @@ total-few : (f : ℕ → ℕ) (c : ℕ) (l : List ℕ) → ((i : ℕ) → i < le
 unfolding total
 total-few f c [] h = omega arith
 total-few f c (x ∷ l) h = omega (arith, h 0 (omega arith), total-few f c l (λ i z. h (suc i) (omega arith)), mul-suc c (length l))
+
+-- but for one entry, with one more
+total-but : (f : ℕ → ℕ) (c r : ℕ) (l : List ℕ) → r < length l → f (getD l r 0) ≤ c + 1 → ((i : ℕ) → i < length l → i ≢ r → f (getD l i 0) ≤ c)
+    → total f l ≤ c * length l + 1
+unfolding total
+total-but f c r [] b m h = absurd (omega arith)
+total-but f c zero (x ∷ l) b m h = omega (arith, total-few f c l (λ i z. h (suc i) (omega arith) (omega arith)), mul-suc c (length l))
+total-but f c (suc r) (x ∷ l) b m h =
+    omega (
+      arith,
+      h 0 (omega arith) (omega arith),
+      total-but f c r l (omega arith) m (λ i z n. h (suc i) (omega arith) (λ e. n (omega arith))),
+      mul-suc c (length l),
+    )
 
 -- with nine for each place of the table that passes a test
 total-nine : (f : ℕ → ℕ) (b : ℕ → Bool) (c k : ℕ) (l : List ℕ) → ((i : ℕ) → i < length l → f (getD l i 0) + 9 * one (b (k + i)) ≤ c)
@@ -53,14 +67,12 @@ cell-few : (k n : ℕ) → n < 10 ^ suc k → cell n ≤ k + 2
 unfolding cell
 cell-few k n h = omega (arith, decimal-few k n h)
 
--- entry 0 has five digits, and every other is below 2,047
+-- the root's entry has five digits, and every other is below 2,047
 parents-length : (par tax : List ℕ) → SoundTree par tax → total cell par ≤ 5 * length par + 1
-unfolding total up
-parents-length [] tax S = absurd (omega (arith, S .some))
-parents-length (x ∷ par) tax S =
-    let h : (i : ℕ) → i < length par → cell (getD par i 0) ≤ 5 =
-    (λ i l. cell-few 3 (getD par i 0) (omega (arith, S .order (suc i) (omega arith) (omega arith), getD-any par i none 0 l, S .few))) in
-    omega (arith, cell-few 4 x (omega (arith, S .top)), total-few cell 5 par h)
+parents-length par tax S =
+    let r = S .root in
+    total-but cell 5 r par (S .root-in) (cell-few 4 (getD par r 0) (omega (arith, S .root-up, up-at par r (S .root-in))))
+    (λ i l n. cell-few 3 (getD par i 0) (omega (arith, S .others i l n, up-at par i l, S .few)))
 
 -- a leaf's taxon has at most ten digits, an inner node's is 0
 taxa-length : (par tax : List ℕ) → SoundTree par tax → ((i : ℕ) → i < length tax → taxon tax i < 2 ^ 32) → total cell tax + 9 * inners par ≤ 11 * length tax

@@ -1,84 +1,39 @@
-// Rules 2, 3 and 4: the order of the parents, the number of children, and which nodes carry a taxon. The tables may be of either tree:
-// indices are those of the table handed in, and a refusal names its tree.
+// Rules 2, 38, 3 and 4: one root that every node reaches, the number of children, and which nodes carry a taxon. The tables may be of
+// either tree: indices are those of the table handed in, and a refusal names its tree.
 //
 // Most trees are sound. So a first pass finds out whether anything is wrong, and not where: it has no branches, and the compiler makes
 // eight nodes a step of it. Only where something is wrong a second pass looks for the lowest node.
 ghost use mathlib.Core.Path.{_≡_};
 ghost use mathlib.Core.Bool.{not};
-ghost use Prim.Native.Nat.{ℕ, _+_, _≤_, _<_};
+ghost use Prim.Native.Nat.{ℕ, _≤_, _<_};
 ghost use lib.ListN.{length, getD};
 ghost use lib.Dec.{T, eqb};
 ghost use Rattle.trees.specs.Lists.{lowest, one};
 ghost use Rattle.trees.specs.Rulings.{verdict};
-ghost use Rattle.trees.specs.Rules.{ordered, sized, shapeRules};
+ghost use Rattle.trees.specs.Rules.{sized, childRules};
 ghost use Rattle.trees.specs.Answers.{judgedOf};
-ghost use Rattle.shapes.specs.Counts.{pairedCount, markedCount, wantedCount, ChildCounts, Shaped, Zeros};
-ghost use Rattle.shapes.specs.Promises.{FirstUnorderedMeets, JudgeShapeMeets};
+ghost use Rattle.shapes.specs.Counts.{pairedCount, markedCount, wantedCount, ChildCounts, Zeros};
+ghost use Rattle.shapes.specs.Promises.{JudgeShapeMeets};
 use trees::Judged;
 use trees::refuse;
-
-// ---- rule 2
-
-// Is every node in order?
-fn all_ordered(parents: &[u16]) -> bool
-    requires { ⌜ (1 ≤ length (now parents)) × (length (now parents) ≤ 2047) ⌝ }
-    ensures { λ r. ⌜ (T r → (k : ℕ) → k < length (now (parents .entry)) → T (ordered (now (parents .entry)) k)) ⌝ }
-{
-    if parents[0] != 65535 {
-        return false;
-    }
-    let n = parents.len();
-    let mut wrong: u16 = 0;
-    let mut i: usize = 1;
-    while i < n {
-        wrong = passes::noted(wrong, parents[i] < (i as u16));
-        i += 1;
-    }
-    wrong == 0
-}
-
-// Rule 2 at one node.
-fn ordered_at(parents: &[u16], i: usize) -> bool
-    requires { ⌜ i < length (now parents) ⌝ }
-    ensures { λ r. ⌜ r ≡ ordered (now (parents .entry)) i ⌝ }
-{
-    let u = parents[i] as usize;
-    if i == 0 { u == 65535 } else { u < i }
-}
-
-// Rule 2: the lowest node whose parent breaks the order, or the number of nodes.
-pub fn first_unordered(parents: &[u16]) -> usize
-    requires { ⌜ (1 ≤ length (now parents)) × (length (now parents) ≤ 2047) ⌝ }
-    ensures { λ r. ⌜ FirstUnorderedMeets (now (parents .entry)) r ⌝ }
-{
-    let n = parents.len();
-    if all_ordered(parents) {
-        return n;
-    }
-    let mut i: usize = 0;
-    while i < n {
-        if ordered_at(parents, i) {
-            i += 1;
-        } else {
-            return i;
-        }
-    }
-    n
-}
 
 // ---- the children of each node
 
 // How many children each node has, into a table of zeros.
 fn count_children(parents: &[u16], counts: &mut [u16])
-    requires { ⌜ Shaped (now parents) × Zeros (now parents) (now counts) ⌝ }
+    requires { ⌜ (length (now parents) ≤ 2047) × Zeros (now parents) (now counts) ⌝ }
     ensures { λ r. ⌜ ChildCounts (now (parents .entry)) (now (counts .exit)) ⌝ }
 {
     let n = parents.len();
-    let mut i: usize = 1;
+    let mut i: usize = 0;
     while i < n {
         let u = parents[i] as usize;
-        counts[u] = counts[u] + 1;
-        i += 1;
+        if u < n {
+            counts[u] = counts[u] + 1;
+            i += 1;
+        } else {
+            i += 1;
+        }
     }
 }
 
@@ -165,10 +120,10 @@ fn first_unmarked(counts: &[u16], taxa: &[u32]) -> usize
     n
 }
 
-// Rules 3 and 4 of a tree in order whose children are counted.
+// Rules 3 and 4 of a tree whose children are counted.
 fn judge_counts(tree: u16, parents: &[u16], taxa: &[u32], counts: &[u16]) -> Judged
-    requires { ⌜ T (sized (now parents) (now taxa)) × Shaped (now parents) × ChildCounts (now parents) (now counts) ⌝ }
-    ensures { λ r. ⌜ judgedOf r ≡ verdict (shapeRules tree (now (parents .entry)) (now (taxa .entry))) ⌝ }
+    requires { ⌜ T (sized (now parents) (now taxa)) × ChildCounts (now parents) (now counts) ⌝ }
+    ensures { λ r. ⌜ judgedOf r ≡ verdict (childRules tree (now (parents .entry)) (now (taxa .entry))) ⌝ }
 {
     if all_shaped(counts, taxa) {
         return Judged::Sound;
@@ -185,37 +140,36 @@ fn judge_counts(tree: u16, parents: &[u16], taxa: &[u32], counts: &[u16]) -> Jud
     Judged::Sound
 }
 
-// Rules 3 and 4 of a tree in order that is not large: 510 bytes of stack.
+// Rules 3 and 4 of a tree that is not large: 510 bytes of stack.
 fn judge_small(tree: u16, parents: &[u16], taxa: &[u32]) -> Judged
-    requires { ⌜ T (sized (now parents) (now taxa)) × Shaped (now parents) × (length (now parents) ≤ 255) ⌝ }
-    ensures { λ r. ⌜ judgedOf r ≡ verdict (shapeRules tree (now (parents .entry)) (now (taxa .entry))) ⌝ }
+    requires { ⌜ T (sized (now parents) (now taxa)) × (length (now parents) ≤ 255) ⌝ }
+    ensures { λ r. ⌜ judgedOf r ≡ verdict (childRules tree (now (parents .entry)) (now (taxa .entry))) ⌝ }
 {
     let mut counts = [0u16; 255];
     count_children(parents, &mut counts);
     judge_counts(tree, parents, taxa, &counts)
 }
 
-// Rules 3 and 4 of any tree in order: 4,094 bytes of stack.
+// Rules 3 and 4 of any tree: 4,094 bytes of stack.
 fn judge_large(tree: u16, parents: &[u16], taxa: &[u32]) -> Judged
-    requires { ⌜ T (sized (now parents) (now taxa)) × Shaped (now parents) ⌝ }
-    ensures { λ r. ⌜ judgedOf r ≡ verdict (shapeRules tree (now (parents .entry)) (now (taxa .entry))) ⌝ }
+    requires { ⌜ T (sized (now parents) (now taxa)) × (length (now parents) ≤ 2047) ⌝ }
+    ensures { λ r. ⌜ judgedOf r ≡ verdict (childRules tree (now (parents .entry)) (now (taxa .entry))) ⌝ }
 {
     let mut counts = [0u16; 2047];
     count_children(parents, &mut counts);
     judge_counts(tree, parents, taxa, &counts)
 }
 
-// Rules 2, 3 and 4 of the tree with that number, on two tables that rule 1 has passed.
+// Rules 2, 38, 3 and 4 of the tree with that number, on two tables that rule 1 has passed.
 pub fn judge_shape(tree: u16, parents: &[u16], taxa: &[u32]) -> Judged
     requires { ⌜ T (sized (now parents) (now taxa)) ⌝ }
     ensures { λ r. ⌜ JudgeShapeMeets tree (now (parents .entry)) (now (taxa .entry)) r ⌝ }
 {
-    let n = parents.len();
-    let a = first_unordered(parents);
-    if a < n {
-        return Judged::Refused(refuse(2, tree, a));
-    }
-    if n <= 255 {
+    let rooted = orders::judge_roots(tree, parents);
+    let Judged::Sound = rooted else {
+        return rooted;
+    };
+    if parents.len() <= 255 {
         return judge_small(tree, parents, taxa);
     }
     judge_large(tree, parents, taxa)

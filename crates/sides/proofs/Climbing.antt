@@ -14,10 +14,9 @@ use Rattle.trees.specs.Lists.{range, consIf, keepIf, first, pick}
 use Rattle.trees.specs.Trees.{none, up, line, Below, kid, Inner, nodes, kids}
 use Rattle.trees.specs.Sound.{SoundTree}
 use Rattle.trees.proofs.Lists.{first-yes, first-no, first-none, first-has, any-cases, keep-last}
-use Rattle.trees.proofs.Lines.{up-at, line-in, off-line, on-line, top-node}
-use Rattle.trees.proofs.Kids.{siblings, kids-two}
-use Rattle.trees.proofs.Meets.{rank-le}
-use Rattle.trees.proofs.Sound.{rooted, rank-is}
+use Rattle.trees.proofs.Lines.{up-at, line-in, line-out, off-line, on-line, top-node}
+use Rattle.trees.proofs.Kids.{siblings, kids-two, not-over}
+use Rattle.trees.proofs.Sound.{rooted}
 use Rattle.sides.specs.Tests.{sideOf}
 use Rattle.sides.specs.Visits.{unseen, merged, sidesFrom, sidesOf, childSide, Seen}
 
@@ -34,16 +33,16 @@ module _ {sp st : List ℕ} (S : SoundTree sp st) where
       (first-no (λ x. eqb (up sp x) a) s (line sp (up sp s)) none (ne-eqb (up sp s) a (λ e. n (sym (up-at sp s h) ∙ e)))
       ∙ ap (λ u. first (λ x. eqb (up sp x) a) (line sp u) none) (up-at sp s h))
 
-  -- no node at or above s has a for its parent, if s is not above a's number
-  pub side-low : (a s : ℕ) → a < length sp → s < length sp → s ≤ a → none ≡ sideOf sp a s
+  -- no node at or above a has a for its parent
+  pub side-self : (a : ℕ) → none ≡ sideOf sp a a
   unfolding sideOf
-  side-low a s l h b =
-      sym (first-none (λ x. eqb (up sp x) a) (line sp s) none
-      (λ x t. let B = off-line sp t in
-      ne-eqb (up sp x) a (λ e. elim (ℕ-discrete x 0) [
-        | yes z ↦ absurd (omega (arith, S .top, S .few, rw z at e))
-        | no z ↦ absurd (omega (arith, e, S .order x (omega arith) (top-node B), rank-le (rooted S .ground) B, rank-is S x, rank-is S s))
-      ])))
+  side-self a =
+      sym (first-none (λ x. eqb (up sp x) a) (line sp a) none (λ x t. ne-eqb (up sp x) a (λ e. not-over (rooted S .ground) {c = x} (rw e (off-line sp t)))))
+
+  -- above the root there is nothing
+  pub side-root : (a s : ℕ) → s < length sp → getD sp s 0 ≢ a → length sp ≤ getD sp s 0 → none ≡ sideOf sp a s
+  unfolding sideOf first
+  side-root a s h n l = sym (side-up a s h n ∙ rw (line-out sp (getD sp s 0) l))
 
   -- ---- what a side is
 

@@ -19,16 +19,22 @@ fn side_of(species_parents: &[u16], above: SpeciesNode, place: SpeciesNode) -> S
     requires { ⌜ Treelike (now «species_parents») × (above .0 < length (now «species_parents»)) × (place .0 < length (now «species_parents»)) ⌝ }
     ensures { λ r. ⌜ SideBy (now («species_parents» .entry)) (above .0) (place .0) r ⌝ }
 {
+    let n = species_parents.len();
     let a = above.0;
     let mut s = place.0;
-    while a < s {
+    if s == a {
+        return SpeciesSpot::Nowhere;
+    }
+    loop {
         let u = species_parents[s] as usize;
         if u == a {
             return SpeciesSpot::At(SpeciesNode(s));
         }
+        if n <= u {
+            return SpeciesSpot::Nowhere;
+        }
         s = u;
     }
-    SpeciesSpot::Nowhere
 }
 
 // Is a place at or below another, of which it lies on this side?

@@ -14,7 +14,7 @@ use Rattle.trees.specs.Rulings.{Ruling, accepted, refused, Rule, whole, each, r
 use Rattle.trees.specs.Trees.{nodes}
 use Rattle.trees.specs.Tables.{Pair}
 use Rattle.trees.specs.Sound.{Sound}
-use Rattle.trees.specs.Rules.{shapeRules, speciesRules, familyRules, geneRules, pairRules}
+use Rattle.trees.specs.Rules.{rootRules, childRules, shapeRules, speciesRules, familyRules, geneRules, pairRules}
 use Rattle.trees.proofs.Bools.{clash}
 use Rattle.trees.proofs.Rulings.{rule-cases, ruling-pass, ruling-fail, ruling-accepted, every-right, every-head, every-tail}
 use Rattle.trees.proofs.Soundness.{pair-sound}
@@ -32,10 +32,10 @@ use Rattle.printing.proofs.Lines.{node-length, counts-length, refused-length, l
 
 -- ---- refusals
 
--- a rule with a small number and tree, refused at a place below 2,047
+-- a rule with a number of two digits and a small tree, refused at a place of 16 bits
 abbrev Small : Rule → Type 0
-Small (whole n t v b) = (n ≤ 20) × (t ≤ 2) × (v ≤ 2046)
-Small (each n t k ok) = (n ≤ 20) × (t ≤ 2) × (k ≤ 2047)
+Small (whole n t v b) = (n ≤ 99) × (t ≤ 2) × (v ≤ 65535)
+Small (each n t k ok) = (n ≤ 99) × (t ≤ 2) × (k ≤ 2047)
 
 -- a refusal of rules in a row is one of the first, or they pass and it is one of the others
 ruling-split : {A : Type 0} (rs ss : List Rule) (a : A) (n t v : ℕ) → ruling (rs ++ ss) a ≡ refused n t v
@@ -50,18 +50,21 @@ ruling-split (r ∷ rs) ss a n t v e =
       | inr f ↦ inl (ruling-fail r rs a (f .0) (f .1) ∙ sym (ruling-fail r (rs ++ ss) a (f .0) (f .1)) ∙ e)
     ]
 
-small-one : (n t : ℕ) {b : Bool} {rs : List Rule} → n ≤ 20 → t ≤ 2 → Every Small rs → Every Small (whole n t 0 b ∷ rs)
-small-one n t {b} x y ss = and {r = whole n t 0 b} (x, y, omega arith) ss
+small-at : (n t v : ℕ) {b : Bool} {rs : List Rule} → n ≤ 99 → t ≤ 2 → v ≤ 65535 → Every Small rs → Every Small (whole n t v b ∷ rs)
+small-at n t v {b} x y z ss = and {r = whole n t v b} (x, y, z) ss
 
-small-each : (n t : ℕ) {k : ℕ} {ok : ℕ → Bool} {rs : List Rule} → n ≤ 20 → t ≤ 2 → k ≤ 2047 → Every Small rs → Every Small (each n t k ok ∷ rs)
+small-one : (n t : ℕ) {b : Bool} {rs : List Rule} → n ≤ 99 → t ≤ 2 → Every Small rs → Every Small (whole n t 0 b ∷ rs)
+small-one n t x y ss = small-at n t 0 x y (omega arith) ss
+
+small-each : (n t : ℕ) {k : ℕ} {ok : ℕ → Bool} {rs : List Rule} → n ≤ 99 → t ≤ 2 → k ≤ 2047 → Every Small rs → Every Small (each n t k ok ∷ rs)
 small-each n t {k} {ok} x y z ss = and {r = each n t k ok} (x, y, z) ss
 
-small-fails : (r : Rule) (v : ℕ) → Small r → Fails r v → (numberOf r ≤ 20) × (treeOf r ≤ 2) × (v ≤ 2046)
+small-fails : (r : Rule) (v : ℕ) → Small r → Fails r v → (numberOf r ≤ 99) × (treeOf r ≤ 2) × (v ≤ 65535)
 unfolding numberOf treeOf
 small-fails (whole n t u b) v s f = (s .0, s .1, omega (arith, s .2, f .0))
 small-fails (each n t k ok) v s f = (s .0, s .1, omega (arith, s .2, f .0))
 
-ruling-small : {A : Type 0} (rs : List Rule) (a : A) (n t v : ℕ) → Every Small rs → ruling rs a ≡ refused n t v → (n ≤ 20) × (t ≤ 2) × (v ≤ 2046)
+ruling-small : {A : Type 0} (rs : List Rule) (a : A) (n t v : ℕ) → Every Small rs → ruling rs a ≡ refused n t v → (n ≤ 99) × (t ≤ 2) × (v ≤ 65535)
 unfolding ruling
 ruling-small [] a n t v done e = clash (cc)
 ruling-small (r ∷ rs) a n t v (and s ss) e =
@@ -77,24 +80,28 @@ ruling-small (r ∷ rs) a n t v (and s ss) e =
     ]
 
 pair-small : (w : Pair) → length (w .sp) ≤ 2047 → length (w .gp) ≤ 2047 → Every Small (pairRules w)
-unfolding pairRules speciesRules geneRules familyRules shapeRules
+unfolding pairRules speciesRules geneRules familyRules shapeRules rootRules childRules
 pair-small w a b =
     small-one 1 1 (omega arith) (omega arith)
     (small-each 2 1 (omega arith) (omega arith) a
+    (small-at 2 1 65535 (omega arith) (omega arith) (omega arith)
+    (small-each 38 1 (omega arith) (omega arith) a
     (small-each 3 1 (omega arith) (omega arith) a
     (small-each 4 1 (omega arith) (omega arith) a
     (small-each 5 1 (omega arith) (omega arith) a
     (small-one 1 2 (omega arith) (omega arith)
     (small-each 2 2 (omega arith) (omega arith) b
+    (small-at 2 2 65535 (omega arith) (omega arith) (omega arith)
+    (small-each 38 2 (omega arith) (omega arith) b
     (small-each 3 2 (omega arith) (omega arith) b
     (small-each 4 2 (omega arith) (omega arith) b
     (small-each 6 2 (omega arith) (omega arith) b
-    done)))))))))
+    done)))))))))))))
 
 take-few : (n : ℕ) (l : List ℕ) → length (take n l) ≤ n
 take-few n l = omega (arith, length-take n l)
 
-text-small : (text : List ℕ) (n t v : ℕ) → textRuling text ≡ refused n t v → (n ≤ 20) × (t ≤ 2) × (v ≤ 2046)
+text-small : (text : List ℕ) (n t v : ℕ) → textRuling text ≡ refused n t v → (n ≤ 99) × (t ≤ 2) × (v ≤ 65535)
 unfolding textRuling textRules countRules tables tablesOf
 text-small text n t v e =
     let w = tables text in
@@ -110,14 +117,14 @@ text-small text n t v e =
           (pair-small w (omega (arith, p-few, take-few (speciesCount text) (map value (drop 2 (words text))))) (omega (arith, q-few, take-few (geneCount text) (drop (speciesCount text + speciesCount text) (map value (drop 2 (words text)))))))) (q .1)
     ]
 
-refused-few : (n t v : ℕ) → (n ≤ 20) × (t ≤ 2) × (v ≤ 2046) → length (refusedLine n t v) ≤ 18
+refused-few : (n t v : ℕ) → (n ≤ 99) × (t ≤ 2) × (v ≤ 65535) → length (refusedLine n t v) ≤ 19
 refused-few n t v s =
     omega (
       arith,
       refused-length n t v,
       decimal-few 1 n (omega (arith, s .0)),
       decimal-few 0 t (omega (arith, s .1)),
-      decimal-few 3 v (omega (arith, s .2)),
+      decimal-few 4 v (omega (arith, s .2)),
     )
 
 -- ---- the lines of a history

@@ -11,12 +11,12 @@ use mathlib.Core.List.{List, _∷_, _++_, map, map-append}
 use lib.ListN.{length, getD, drop, replicate}
 use lib.Dec.{T, leb, le→leb}
 use Rattle.trees.specs.Rulings.{accepted, whole, ruling, Passes, Every, done, and}
-use Rattle.trees.specs.Trees.{none, up, nodes}
+use Rattle.trees.specs.Trees.{nodes}
 use Rattle.trees.specs.Tables.{Pair, taxon}
 use Rattle.trees.specs.Sound.{SoundTree, Sound}
 use Rattle.trees.specs.Rules.{pairRules}
 use Rattle.trees.proofs.Bools.{and-both}
-use Rattle.trees.proofs.Lists.{getD-any}
+use Rattle.trees.proofs.Lines.{up-at}
 use Rattle.trees.proofs.Rulings.{ruling-all, ruling-pass, ruling-passes}
 use Rattle.trees.proofs.Soundness.{pair-sound}
 use Rattle.histories.specs.Histories.{least}
@@ -99,11 +99,10 @@ module _ {w : Pair} (F : Writable w) {text : List ℕ} (W : Written (numbersOf w
 -- ---- sound pairs
 
 parents-wide : (par tax : List ℕ) → SoundTree par tax → (i : ℕ) → i < length par → getD par i 0 < 2 ^ 16
-unfolding up
 parents-wide par tax S i l =
-    elim (ℕ-discrete i 0) [
-      | yes e ↦ rw e (omega (arith, S .top, getD-any par 0 none 0 (S .some)))
-      | no e ↦ omega (arith, S .order i (omega arith) l, getD-any par i none 0 l, S .few)
+    elim (ℕ-discrete i (S .root)) [
+      | yes e ↦ rw e (omega (arith, S .root-up, up-at par (S .root) (S .root-in)))
+      | no e ↦ omega (arith, S .others i l e, up-at par i l, S .few)
     ]
 
 module _ {w : Pair} (S : Sound w) (small : (i : ℕ) → i < length (w .st) → taxon (w .st) i < 2 ^ 32) where

@@ -7,10 +7,10 @@ use Prim.Native.Nat.{ℕ}
 use mathlib.Core.Path.{_≡_, refl}
 use mathlib.Core.List.{List, [], _∷_}
 use Rattle.trees.specs.Lists.{range, consIf, keepIf, has, all, any, pick, first, total, one, lowest}
-use Rattle.trees.specs.Trees.{up, climb, line, nodes, kids, kid, isLeaf, depth}
+use Rattle.trees.specs.Trees.{up, isRoot, climb, line, nodes, kids, kid, isLeaf, depth}
 use Rattle.trees.specs.Tables.{carrier, home}
 use Rattle.trees.specs.Rulings.{ruling}
-use Rattle.trees.specs.Rules.{sized, ordered, paired, marked, fresh, known, shapeRules, speciesRules, familyRules, geneRules, pairRules}
+use Rattle.trees.specs.Rules.{sized, parented, topped, reaching, paired, marked, fresh, known, rootRules, childRules, shapeRules, speciesRules, familyRules, geneRules, pairRules}
 use Rattle.histories.specs.Places.{below, leaves, holds, place}
 use Rattle.histories.specs.Histories.{label, edge, lossesAt, losses, climbsAt, climbs, duplications, speciations, cost}
 use Rattle.histories.specs.Rules.{leastCounts}
@@ -37,5 +37,5 @@ shown =
     ∷ 53 ∷ 32 ∷ 52 ∷ 10 ∷ []
 
 pub example-printed : printed example ≡ shown
-unfolding example shown range consIf keepIf has all any first total one lowest up climb line nodes kids kid isLeaf depth carrier home pick ruling sized ordered paired marked fresh known shapeRules speciesRules familyRules geneRules pairRules below leaves holds place label edge lossesAt losses climbsAt climbs duplications speciations cost leastCounts digit spelled isNumber digitsOf decimal blank opens grown words word speciesCount geneCount counted treeWidths widths fits tablesOf tables countRules textRules textRuling ended letter nodeLine historyLines countsLine refusedWord refusedLine report printed
+unfolding example shown range consIf keepIf has all any first total one lowest up isRoot climb line nodes kids kid isLeaf depth carrier home pick ruling sized parented topped reaching paired marked fresh known rootRules childRules shapeRules speciesRules familyRules geneRules pairRules below leaves holds place label edge lossesAt losses climbsAt climbs duplications speciations cost leastCounts digit spelled isNumber digitsOf decimal blank opens grown words word speciesCount geneCount counted treeWidths widths fits tablesOf tables countRules textRules textRuling ended letter nodeLine historyLines countsLine refusedWord refusedLine report printed
 example-printed = refl

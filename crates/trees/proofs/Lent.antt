@@ -1,10 +1,11 @@
 -- When a table is what a call should leave. Assumes nothing.
-use Prim.Native.Nat.{ℕ, _≤_, _<_}
+use Prim.Native.Nat.{ℕ, _+_, _≤_, _<_}
 use native.Mathlib.Omega.{arith}
+use native.Mathlib.Decide.{ℕ-discrete}
 use mathlib.Core.Path.{_≡_, sym, ap₂, _∙_}
 use mathlib.Core.List.{List, _++_}
-use lib.ListN.{length, getD, take, drop, replicate, take-append-drop, length-append, length-drop, length-replicate, getD-replicate, List·getD-append}
-use lib.Seq.{length-take-le, getD-take, ext-getD, drop-append-seam, take-append-seam}
+use lib.ListN.{length, getD, set, take, drop, replicate, take-append-drop, length-append, length-drop, length-replicate, getD-replicate, List·getD-append}
+use lib.Seq.{getD-set-same, getD-set-other, length-take-le, getD-take, ext-getD, drop-append-seam, take-append-seam}
 use Rattle.trees.specs.Lent.{replaced, zeroed}
 
 -- the first entries are new, and those behind them are the old ones
@@ -39,3 +40,7 @@ unfolding zeroed
 zeroed-is q old p h f d =
     let e : length {A = ℕ} (replicate q 0) ≡ q = length-replicate {A = ℕ} q 0 in
     replaced-is (replicate q 0) old p (rw e h) (λ g l. let b : g < q = omega arith in f g b ∙ sym (getD-replicate {A = ℕ} q g 0 0 b)) (rw e d)
+
+-- one entry more is zero
+pub blank-more : (c : List ℕ) (i : ℕ) → i < length c → ((k : ℕ) → k < i → getD c k 0 ≡ 0) → (k : ℕ) → k < i + 1 → getD (set c i 0) k 0 ≡ 0
+blank-more c i h f k l = elim (ℕ-discrete k i) [ yes e ↦ rw e (getD-set-same c i 0 0 h) | no e ↦ getD-set-other c i k 0 0 e ∙ f k (omega arith) ]

@@ -4,10 +4,14 @@ pub mod Lines
 pub mod Kids
 pub mod Meets
 pub mod Roots
+pub mod Reach
 pub mod Rulings
 pub mod Sound
+pub mod Renumber
 pub mod Shape
+pub mod Depths
 pub mod Soundness
+pub mod First
 pub mod Lent
 pub mod Spots
 pub mod One

@@ -1,4 +1,5 @@
--- At or below, and lines. No law here asks how nodes are numbered: `Grounded` is all that the numbering gives. Assumes nothing.
+-- At or below, and lines. No law here asks how nodes are numbered; `Grounded`, a rank that falls from a node to its parent, is enough.
+-- Assumes nothing.
 use Prim.Native.Nat.{ℕ, zero, suc, _+_, _≤_, _<_}
 use native.Mathlib.Nat.{not-suc-le-zero}
 use native.Mathlib.Omega.{arith}
@@ -48,7 +49,7 @@ module _ {par : List ℕ} where
   proper (here l) = inl refl
   proper (step l p) = inr p
 
--- what a numbering gives: a rank that falls from each node to its parent
+-- a rank that falls from each node to its parent: in a tree, the depth
 pub record Grounded (par : List ℕ) : Type 0 where
   pub rank : ℕ → ℕ
   pub falls : (s : ℕ) → s < length par → up par s < length par → rank (up par s) < rank s
@@ -93,6 +94,11 @@ module _ {par : List ℕ} (G : Grounded par) where
 
   pub depth-le : (counted : ℕ → Bool) {a x : ℕ} → Below par a x → depth par counted a ≤ depth par counted x
   depth-le counted {a} {x} p = elim (proper p) [ inl e ↦ rw e (omega arith) | inr q ↦ omega (arith, depth-below counted x q) ]
+
+  -- one step up, one less deep if the parent is counted
+  pub depth-up : (counted : ℕ → Bool) (s : ℕ) → up par s < length par → depth par counted s ≡ one (counted (up par s)) + depth par counted (up par s)
+  unfolding depth total
+  depth-up counted s u = rw (line-in (up par s) u)
 
   -- a counted node and one at or below it that is no deeper are one
   pub same-depth : (counted : ℕ → Bool) {a x : ℕ} → Below par a x → T (counted a) → depth par counted x ≤ depth par counted a → x ≡ a

@@ -6,8 +6,8 @@ use native.Mathlib.Numerals.{add-one}
 use native.Mathlib.Decide.{ℕ-discrete}
 use mathlib.Core.Path.{_≡_, refl, sym, ap, ap₂, _∙_}
 use mathlib.Core.Logic.{_⊎_, inl, inr, _≢_}
-use mathlib.Core.Bool.{Bool, true, false, not}
-use mathlib.Core.List.{List, [], _∷_, _++_, nil≢cons, head-eq-of-cons-eq, tail-eq-of-cons-eq}
+use mathlib.Core.Bool.{Bool, true, false, _||_, not}
+use mathlib.Core.List.{List, [], _∷_, _++_, map, nil≢cons, head-eq-of-cons-eq, tail-eq-of-cons-eq}
 use lib.ListN.{length, getD, length-append}
 use lib.Dec.{T, eqb, eqb→eq, eqb-refl}
 use borrow.Author.Tests.{eq-eqb, ne-eqb, not-true, not-false}
@@ -55,6 +55,11 @@ pub total-le : (f g : ℕ → ℕ) (l : List ℕ) → ((x : ℕ) → T (has x l)
 unfolding total
 total-le f g [] e = omega arith
 total-le f g (x ∷ l) e = omega (arith, e x (has-head x l), total-le f g l (λ y t. e y (has-tail y x l t)))
+
+pub total-ones : (i n : ℕ) → total (λ x. 1) (range i n) ≡ n
+unfolding total range
+total-ones i zero = refl
+total-ones i (suc n) = omega (arith, total-ones (suc i) n)
 
 -- a member is at most the sum
 pub total-member : (f : ℕ → ℕ) (x : ℕ) (l : List ℕ) → T (has x l) → f x ≤ total f l
@@ -164,6 +169,11 @@ unfolding any
 has-any p [] t = absurd t
 has-any p (y ∷ l) t =
     elim (or-cases (p y) (any p l) t) [ inl s ↦ (y, has-head y l, s) | inr s ↦ let k = has-any p l s in (k .0, has-tail (k .0) y l (k .1), k .2) ]
+
+pub any-cong : (p q : ℕ → Bool) (l : List ℕ) → ((x : ℕ) → T (has x l) → p x ≡ q x) → any p l ≡ any q l
+unfolding any
+any-cong p q [] e = refl
+any-cong p q (y ∷ l) e = ap₂ _||_ (e y (has-head y l)) (any-cong p q l (λ x t. e x (has-tail x y l t)))
 
 pub has-getD : (x d : ℕ) (l : List ℕ) → T (has x l) → T (has (getD l 0 d) l)
 unfolding has
@@ -315,6 +325,24 @@ pub keep-last : (p : ℕ → Bool) (i : ℕ) → keepIf p (range 0 (i + 1)) ≡ 
 unfolding keepIf
 keep-last p i = rw (add-one i, range-more 0 i, keep-append p (range 0 i) ((0 + i) ∷ []), zero-add i)
 
+any-append : (p : ℕ → Bool) (l m : List ℕ) → any p (l ++ m) ≡ (any p l || any p m)
+unfolding any
+any-append p [] m = refl
+any-append p (x ∷ l) m = rw (any-append p l m) (or-shift (p x) (any p l) (any p m))
+  where
+    or-shift : (a b c : Bool) → (a || (b || c)) ≡ ((a || b) || c)
+    or-shift true b c = refl
+    or-shift false b c = refl
+
+-- does one of the first numbers pass a test: one number more
+pub any-more : (p : ℕ → Bool) (i : ℕ) → any p (range 0 (i + 1)) ≡ (any p (range 0 i) || p i)
+unfolding any
+any-more p i = rw (add-one i, range-more 0 i, any-append p (range 0 i) ((0 + i) ∷ []), zero-add i) (ap (λ b. any p (range 0 i) || b) (or-none (p i)))
+  where
+    or-none : (b : Bool) → (b || false) ≡ b
+    or-none true = refl
+    or-none false = refl
+
 -- some member passes a test, or all fail it
 pub any-cases : (p : ℕ → Bool) (l : List ℕ) → ((x : ℕ) × T (has x l) × T (p x)) ⊎ ((x : ℕ) → T (has x l) → p x ≡ false)
 any-cases p l =
@@ -322,3 +350,16 @@ any-cases p l =
       | inl e ↦ inl (has-any p l (true-T e))
       | inr e ↦ inr (λ x t. elim (test (p x)) [ inl f ↦ absurd (rw e at (any-has p x l t (true-T f))) | inr f ↦ f ])
     ]
+
+-- ---- a function written out over a range
+
+pub length-range : (f : ℕ → ℕ) (i n : ℕ) → length (map f (range i n)) ≡ n
+unfolding range
+length-range f i zero = refl
+length-range f i (suc n) = ap suc (length-range f (suc i) n)
+
+pub getD-range : (f : ℕ → ℕ) (i n k : ℕ) → k < n → getD (map f (range i n)) k 0 ≡ f (i + k)
+unfolding range
+getD-range f i zero k l = absurd (omega arith)
+getD-range f i (suc n) zero l = ap f (omega arith)
+getD-range f i (suc n) (suc k) l = getD-range f (suc i) n k (omega arith) ∙ ap f (omega arith)

@@ -12,7 +12,7 @@ use borrow.Author.Tests.{eq-eqb, ne-eqb}
 use Rattle.trees.specs.Lists.{range, has, total, one}
 use Rattle.trees.specs.Trees.{up, line, nodes, kids, Leaf, Inner, isLeaf, depth}
 use Rattle.trees.proofs.Bools.{test, true-T}
-use Rattle.trees.proofs.Lists.{only, has-head, has-tail, total-cong, total-add, total-swap, total-at, total-none, total-le}
+use Rattle.trees.proofs.Lists.{only, has-head, has-tail, total-cong, total-add, total-swap, total-at, total-none, total-le, total-ones}
 use Rattle.trees.proofs.Lines.{line-in, line-out, off-line, top-node}
 use Rattle.trees.proofs.Kids.{Rooted, node-has, kids-has, kids-two, leaf-alone, none-has, not-over, sum-kids}
 use Rattle.trees.proofs.Sound.{leaf-is}
@@ -20,11 +20,6 @@ use Rattle.trees.proofs.Sound.{leaf-is}
 -- how many inner nodes there are
 abbrev pub inners : List ℕ → ℕ
 inners par = total (λ g. one (not (isLeaf par g))) (nodes par)
-
-total-one : (i n : ℕ) → total (λ x. 1) (range i n) ≡ n
-unfolding total range
-total-one i zero = refl
-total-one i (suc n) = omega (arith, total-one (suc i) n)
 
 -- how often a node stands in a list
 abbrev times : ℕ → List ℕ → ℕ
@@ -83,7 +78,7 @@ module _ {par : List ℕ} (R : Rooted par) (two : (x : ℕ) → x < length par �
       let b : ℕ → ℕ = λ g. one (not (isLeaf par g)) in
       let s : total (λ g. total (λ x. 1) (kids par g)) (nodes par) ≡ total (λ g. b g + b g) (nodes par) =
       total-cong (λ g. total (λ x. 1) (kids par g)) (λ g. b g + b g) (nodes par) (λ g t. kids-one g (node-has par t)) in
-      omega (arith, s, total-add b b (nodes par), sum-kids R (λ x. 1), total-one 0 (length par))
+      omega (arith, s, total-add b b (nodes par), sum-kids R (λ x. 1), total-ones 0 (length par))
 
   -- no node is deeper than there are inner nodes: its proper ancestors are inner, and each stands on its line once
   pub depth-few : (s : ℕ) → s < length par → depth par (λ x. true) s ≤ inners par

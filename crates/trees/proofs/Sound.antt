@@ -1,8 +1,7 @@
--- Sound tables are trees. Here alone the numbering is read: a node's number is the rank that falls from it to its parent. Assumes nothing.
+-- Sound tables are trees, in any numbering. Assumes nothing.
 use Prim.Native.Nat.{ℕ, _≤_, _<_}
 use native.Mathlib.Omega.{arith}
-use native.Mathlib.Decide.{ℕ-discrete}
-use mathlib.Core.Path.{_≡_, refl, sym, _∙_}
+use mathlib.Core.Path.{_≡_, sym, _∙_}
 use mathlib.Core.Logic.{_⊎_, _↔_}
 use mathlib.Core.Bool.{Bool, false, _&&_}
 use mathlib.Core.List.{List}
@@ -14,27 +13,16 @@ use Rattle.trees.specs.Sound.{SoundTree, Sound}
 use Rattle.trees.proofs.Bools.{and-both, and-left, and-right}
 use Rattle.trees.proofs.Lists.{first-has}
 use Rattle.trees.proofs.Kids.{Rooted, has-node, node-has}
+use Rattle.trees.proofs.Reach.{above-below, reach-rooted}
+
+-- every node is below the root
+pub below-root : {par tax : List ℕ} (S : SoundTree par tax) (x : ℕ) → x < length par → Below par (S .root) x
+below-root {par} S x h = above-below par (omega (arith, S .few)) (S .reach x h .0) h (S .root-in) (S .reach x h .1)
 
 pub rooted : {par tax : List ℕ} → SoundTree par tax → Rooted par
 rooted {par} S =
     let n : length par ≤ 2047 = S .few in
-    record {
-      ground = record {
-        rank = λ s. s;
-        falls = λ s h u. elim (ℕ-discrete s 0) [ yes e ↦ absurd (omega (arith, rw (e, S .top) at u)) | no e ↦ S .order s (omega arith) h ];
-        small = λ s h. h;
-      };
-      fits = omega arith;
-      root = 0;
-      root-in = S .some;
-      root-up = omega (arith, S .top);
-      others = λ c h e. omega (arith, S .order c (omega arith) h);
-    }
-
--- in the base the rank is the number
-pub rank-is : {par tax : List ℕ} (S : SoundTree par tax) (x : ℕ) → rooted S .ground .rank x ≡ x
-unfolding rooted
-rank-is S x = refl
+    reach-rooted (record { fits = omega arith; root = S .root; root-in = S .root-in; root-up = omega (arith, S .root-up); reach = below-root S })
 
 -- what two sound tables give, whatever the numbering
 pub record Trees (w : Pair) : Type 0 where

@@ -1,8 +1,8 @@
--- The rules 1 to 6 all pass exactly if the tables are sound. Assumes nothing.
+-- The rules 1 to 6 and 38 all pass exactly if the tables are sound. Assumes nothing.
 use Prim.Native.Nat.{ℕ, _≤_, _<_}
 use native.Mathlib.Omega.{arith}
 use native.Mathlib.Decide.{ℕ-discrete, decLt}
-use mathlib.Core.Path.{_≡_, sym}
+use mathlib.Core.Path.{_≡_, sym, ap, _∙_}
 use mathlib.Core.Logic.{_⊎_, inl, inr, _≢_, _↔_}
 use mathlib.Core.Bool.{Bool, _&&_, not}
 use mathlib.Core.List.{List, [], _∷_}
@@ -10,15 +10,17 @@ use lib.ListN.{length}
 use lib.Dec.{T, eqb, ltb, leb, eqb→eq, eqb-refl, ltb→lt, lt→ltb, leb→le, le→leb, T-not, not-T}
 use borrow.Author.Tests.{ne-eqb}
 use Rattle.trees.specs.Lists.{range, any, pick}
-use Rattle.trees.specs.Trees.{none, up, nodes, kids, Leaf, Inner, isLeaf}
+use Rattle.trees.specs.Trees.{none, up, isRoot, nodes, kids, Leaf, Inner, isLeaf}
 use Rattle.trees.specs.Tables.{taxon, Pair}
 use Rattle.trees.specs.Sound.{SoundTree, Distinct, Known, SoundSpecies, Sound}
-use Rattle.trees.specs.Rulings.{accepted, each, verdict, fine, Passes, Every, done, and}
-use Rattle.trees.specs.Rules.{sized, ordered, paired, marked, fresh, known, shapeRules, speciesRules, familyRules, geneRules, pairRules}
+use Rattle.trees.specs.Rulings.{accepted, whole, each, verdict, fine, Passes, Every, done, and}
+use Rattle.trees.specs.Rules.{sized, parented, topped, reaching, paired, marked, fresh, known, rootRules, childRules, shapeRules, speciesRules, familyRules, geneRules, pairRules}
 use Rattle.trees.proofs.Bools.{or-left, or-right, or-cases, and-both, and-left, and-right, test, T-true, true-T}
 use Rattle.trees.proofs.Lists.{any-has, has-any, has-range, range-has}
 use Rattle.trees.proofs.Kids.{has-node, node-has}
-use Rattle.trees.proofs.Sound.{leaf-is, is-leaf, not-leaf}
+use Rattle.trees.proofs.Lines.{top-node}
+use Rattle.trees.proofs.Reach.{below-above, reaching-is}
+use Rattle.trees.proofs.Sound.{below-root, leaf-is, is-leaf, not-leaf}
 use Rattle.trees.proofs.Rulings.{ruling-accepted, ruling-passes, every-join, every-left, every-right, every-head, every-tail}
 
 -- ---- one tree
@@ -46,22 +48,80 @@ is-sized par tax s =
     (and-both (leb 1 n) (leb n 2047) (le→leb 1 n (s .some)) (le→leb n 2047 (s .few)))
     (rw (s .even) (eqb-refl n))
 
+-- what rule 2 gives: one root, and every other parent under n
+pub record Topped (par : List ℕ) : Type 0 where
+  pub root : ℕ
+  pub root-in : root < length par
+  pub root-up : up par root ≡ none
+  pub others : (i : ℕ) → i < length par → i ≢ root → up par i < length par
+
 module _ (par : List ℕ) where
-  pub ordered-top : T (ordered par 0) → up par 0 ≡ none
-  unfolding ordered pick
-  ordered-top t = eqb→eq (up par 0) none t
+  pub root-is : (i : ℕ) → T (isRoot par i) → up par i ≡ none
+  unfolding isRoot
+  root-is i t = eqb→eq (up par i) none t
 
-  pub ordered-order : (i : ℕ) → 0 < i → T (ordered par i) → up par i < i
-  unfolding ordered pick
-  ordered-order i h t = ltb→lt (up par i) i (rw (ne-eqb i 0 (omega arith)) at t)
+  pub is-root : (i : ℕ) → up par i ≡ none → T (isRoot par i)
+  unfolding isRoot
+  is-root i e = rw e tt
 
-  pub is-ordered : up par 0 ≡ none → ((i : ℕ) → 0 < i → i < length par → up par i < i) → (i : ℕ) → i < length par → T (ordered par i)
-  unfolding ordered pick
-  is-ordered e f i h =
-      elim (ℕ-discrete i 0) [
-        | yes z ↦ rw (z, e) tt
-        | no z ↦ rw (ne-eqb i 0 z) (lt→ltb (up par i) i (f i (omega arith) h))
+  -- a parent under n, or the first root
+  pub parented-is : (i : ℕ) → T (parented par i) → (up par i < length par) ⊎ ((up par i ≡ none) × ((j : ℕ) → j < i → up par j ≢ none))
+  unfolding parented
+  parented-is i t =
+      let a = ltb (up par i) (length par) in
+      let b = any (isRoot par) (range 0 i) in
+      elim (or-cases a (isRoot par i && not b) t) [
+        | inl l ↦ inl (ltb→lt (up par i) (length par) l)
+        | inr r ↦ inr (
+          root-is i (and-left (isRoot par i) (not b) r),
+          λ j h e.
+              T-not b (and-right (isRoot par i) (not b) r) (any-has (isRoot par) j (range 0 i) (has-range 0 i j (omega arith) (omega arith)) (is-root j e)),
+        )
       ]
+
+  pub parent-parented : (i : ℕ) → up par i < length par → T (parented par i)
+  unfolding parented
+  parent-parented i h = or-left (ltb (up par i) (length par)) (isRoot par i && not (any (isRoot par) (range 0 i))) (lt→ltb (up par i) (length par) h)
+
+  pub root-parented : (i : ℕ) → up par i ≡ none → ((j : ℕ) → j < i → up par j ≢ none) → T (parented par i)
+  unfolding parented
+  root-parented i e f =
+      let b = any (isRoot par) (range 0 i) in
+      or-right (ltb (up par i) (length par)) (isRoot par i && not b)
+      (and-both (isRoot par i) (not b) (is-root i e)
+      (not-T b (λ t. let k = has-any (isRoot par) (range 0 i) t in f (k .0) (omega (arith, range-has 0 i (k .0) (k .1))) (root-is (k .0) (k .2)))))
+
+  -- of two roots the higher number would be refused
+  pub topped-is : length par ≤ none → ((i : ℕ) → i < length par → T (parented par i)) → T (topped par) → Topped par
+  unfolding topped
+  topped-is few f t =
+      let k = has-any (isRoot par) (nodes par) t in
+      let r = k .0 in
+      let h = node-has par (k .1) in
+      let e = root-is r (k .2) in
+      record {
+        root = r;
+        root-in = h;
+        root-up = e;
+        others = λ i l n. elim (parented-is i (f i l)) [
+          | inl u ↦ u
+          | inr z ↦ elim (decLt r i) [
+            | yes m ↦ absurd (z .1 r m e)
+            | no m ↦ elim (parented-is r (f r h)) [ inl u ↦ absurd (omega (arith, u, e)) | inr y ↦ absurd (y .1 i (omega arith) (z .0)) ]
+          ]
+        ];
+      }
+
+  pub is-parented : Topped par → length par ≤ none → (i : ℕ) → i < length par → T (parented par i)
+  is-parented Z f i h =
+      elim (ℕ-discrete i (Z .root)) [
+        | yes e ↦ root-parented i (ap (up par) e ∙ Z .root-up) (λ j l u. omega (arith, Z .others j (omega arith) (omega arith)))
+        | no n ↦ parent-parented i (Z .others i h n)
+      ]
+
+  pub is-topped : Topped par → T (topped par)
+  unfolding topped
+  is-topped Z = any-has (isRoot par) (Z .root) (nodes par) (has-node par (Z .root-in)) (is-root (Z .root) (Z .root-up))
 
   pub paired-is : (i : ℕ) → T (paired par i) → Leaf par i ⊎ Inner par i
   unfolding paired
@@ -88,17 +148,25 @@ module _ (par tax : List ℕ) where
   is-marked i (inl p) = rw (T-true {b = isLeaf par i} (is-leaf par i (p .0)), ne-eqb (taxon tax i) 0 (p .1)) tt
   is-marked i (inr p) = rw (not-leaf par i (p .0), p .1) tt
 
-  -- rules 1 to 4 of one tree, whichever it is
+  only-root : (Z : Topped par) (r : ℕ) → r < length par → up par r ≡ none → length par ≤ none → r ≡ Z .root
+  only-root Z r h e f = elim (ℕ-discrete r (Z .root)) [ yes q ↦ q | no n ↦ absurd (omega (arith, e, f, Z .others r h n)) ]
+
+  -- rules 1 to 4 and 38 of one tree, whichever it is
   pub tree-sound : (t : ℕ) → T (sized par tax) → Every Passes (shapeRules t par tax) → SoundTree par tax
-  unfolding shapeRules
-  tree-sound t s (and o (and k (and m done))) =
+  unfolding shapeRules rootRules childRules
+  tree-sound t s (and o (and a (and c (and k (and m done))))) =
       let z = sized-is par tax s in
+      let n : length par ≤ 2047 = z .few in
+      let Z = topped-is par (omega arith) o a in
       record {
         some = z .some;
         few = z .few;
         even = z .even;
-        top = ordered-top par (o 0 (z .some));
-        order = λ i h l. ordered-order par i h (o i l);
+        root = Z .root;
+        root-in = Z .root-in;
+        root-up = Z .root-up;
+        others = Z .others;
+        reach = λ i l. let R = (reaching-is par (omega arith) i) .0 (c i l) in below-above (rw (only-root Z (R .0) (top-node (R .2)) (root-is par (R .0) (R .1)) (omega arith)) at (R .2));
         two = λ i l. paired-is par i (k i l);
         leaf-tax = λ i l e. marked-leaf i e (m i l);
         inner-tax = λ i l e. marked-inner i e (m i l);
@@ -108,12 +176,16 @@ module _ (par tax : List ℕ) where
   sound-size S = is-sized par tax (record { some = S .some; few = S .few; even = S .even })
 
   pub sound-shape : (t : ℕ) → SoundTree par tax → Every Passes (shapeRules t par tax)
-  unfolding shapeRules
+  unfolding shapeRules rootRules childRules
   sound-shape t S =
-      and {r = each 2 t (length par) (ordered par)} (is-ordered par (S .top) (S .order))
+      let n : length par ≤ 2047 = S .few in
+      let Z : Topped par = record { root = S .root; root-in = S .root-in; root-up = S .root-up; others = S .others } in
+      and {r = each 2 t (length par) (parented par)} (is-parented par Z (omega arith))
+      (and {r = whole 2 t none (topped par)} (is-topped par Z)
+      (and {r = each 38 t (length par) (reaching par)} (λ i l. (reaching-is par (omega arith) i) .1 (S .root, is-root par (S .root) (S .root-up), below-root S i l))
       (and {r = each 3 t (length par) (paired par)} (λ i l. is-paired par i (S .two i l))
       (and {r = each 4 t (length par) (marked par tax)} (λ i l. is-marked i (elim (S .two i l) [ inl e ↦ inl (e, S .leaf-tax i l e) | inr e ↦ inr (e, S .inner-tax i l e) ]))
-      done))
+      done))))
 
 -- ---- rule 5
 
@@ -201,7 +273,7 @@ family-sound w s =
       (λ S. every-join shape last (sound-shape (w .gp) (w .gt) 2 (S .0)) (and {r = each 6 2 (length (w .gp)) (known w)} (λ x h. is-known w x (S .1 x h)) done)),
     )
 
--- all rules 1 to 6 pass exactly if both trees are sound
+-- all rules 1 to 6 and 38 pass exactly if both trees are sound
 pub pair-sound : (w : Pair) → Every Passes (pairRules w) ↔ Sound w
 unfolding pairRules geneRules
 pair-sound w =

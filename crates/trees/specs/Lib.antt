@@ -3,6 +3,8 @@ pub mod Trees
 pub mod Rulings
 pub mod Tables
 pub mod Sound
+pub mod Renumber
+pub mod First
 pub mod Rules
 pub mod Lent
 pub mod Spots

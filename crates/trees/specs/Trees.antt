@@ -1,6 +1,8 @@
 -- A tree as its table of parents.
---   none              == 65,535: no parent                                          (01, "Entry 0 is 65,535 (no parent)")
+--   none              == 65,535: no parent                                          (01, "65,535 (no parent)")
 --   up par s          == the parent of s; none where there is none
+--   isRoot par s      == has s the entry 65,535?                                    (02, W8: "exactly one 65,535 entry")
+--   above par k s     == the node k steps up from s
 --   line par s        == s and its ancestors, nearest first; empty if s is no node
 --   Below par a x     <-> x is at or below a
 --   nodes par         == the node numbers, ascending                                (01, "numbered from 0")
@@ -25,6 +27,13 @@ none = 65535
 
 unfoldable pub up : List ℕ → ℕ → ℕ
 up par s = getD par s none
+
+unfoldable pub isRoot : List ℕ → ℕ → Bool
+isRoot par s = eqb (up par s) none
+
+unfoldable pub above : List ℕ → ℕ → ℕ → ℕ
+above par zero s = s
+above par (suc k) s = above par k (up par s)
 
 -- at most k nodes of the line of s
 unfoldable pub climb : List ℕ → ℕ → ℕ → List ℕ

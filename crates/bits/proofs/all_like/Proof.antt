@@ -7,7 +7,7 @@ use borrow.Author.Count.{below-none, below-more}
 use Rattle.trees.specs.Tables.{taxon}
 use Rattle.trees.proofs.Bools.{true-T}
 use Rattle.shapes.specs.Counts.{wantedCount}
-use Rattle.bits.specs.Bits.{twoAt}
+use Rattle.marks.specs.Bits.{twoAt}
 use borrow.Author.Needs.{needs}
 use Rattle.bits.proofs.all_like.Statement.{statement}
 use Rattle.bits.proofs.all_like.Tie as tie
@@ -21,14 +21,8 @@ abbrev μ-loop : tie.MeasureT-loop
 loop-holds : tie.Need-loop-holds Inv-loop μ-loop
 loop-holds c = (search needs, search needs, below-none _)
 
-mul-two-of : tie.Need-mul-two-of Inv-loop μ-loop
-mul-two-of c = search needs
-
-shared-slice-read-two-of : tie.Need-shared-slice-read-two-of Inv-loop μ-loop
-shared-slice-read-two-of c = search needs
-
-two-of-requires : tie.Need-two-of-requires Inv-loop μ-loop
-two-of-requires c κs = search needs
+two-at-requires : tie.Need-two-at-requires Inv-loop μ-loop
+two-at-requires c κs = search needs
 
 mul-like : tie.Need-mul-like Inv-loop μ-loop
 mul-like c = search needs
@@ -46,8 +40,7 @@ loop-less : tie.Need-loop-less Inv-loop μ-loop
 loop-less c = search needs
 
 loop-again : tie.Need-loop-again Inv-loop μ-loop
-unfolding twoAt
-loop-again c = (search needs, search needs, below-more _ _ (c .before .before .before .before .before .before .loop .inv .2) (sym (c .before .before .before .two-of .ensures) ∙ eqb→eq _ _ (true-T (sym (c .before .like .ensures) ∙ c .if1 .taken))))
+loop-again c = (search needs, search needs, below-more _ _ (c .before .before .before .before .before .loop .inv .2) (sym (c .before .before .before .two-at .ensures) ∙ eqb→eq _ _ (true-T (sym (c .before .like .ensures) ∙ c .if1 .taken))))
 
 returns : tie.Need-returns Inv-loop μ-loop
 returns c = λ t. absurd t
@@ -62,9 +55,7 @@ all-like-spec =
     Inv-loop
     μ-loop
     loop-holds
-    mul-two-of
-    shared-slice-read-two-of
-    two-of-requires
+    two-at-requires
     mul-like
     shared-slice-read-like
     like-requires

@@ -7,10 +7,6 @@ use borrow.Author.Needs.{needs}
 use Rattle.bits.proofs.surely_shaped.Statement.{statement}
 use Rattle.bits.proofs.surely_shaped.Tie as tie
 
--- the place gone back to
-abbrev start : tie.After-count-pairs → tie.Start
-start c = c .before .before .before .before .before .before .before .before .before
-
 blank-requires : tie.Need-blank-requires
 blank-requires c κs = search needs
 
@@ -18,13 +14,13 @@ count-pairs-requires : tie.Need-count-pairs-requires
 count-pairs-requires c κs = search needs
 
 all-like-requires : tie.Need-all-like-requires
-all-like-requires c κs = let z = sized-is _ _ (start (c .before .before .before .before) .pre .0) in (search needs, omega (arith, z .few, z .even))
+all-like-requires c κs = let z = sized-is _ _ (c .before .before .before .before .before .before .before .before .before .before .before .before .before .pre .0) in (search needs, omega (arith, z .few, z .even))
 
 same-length : tie.Need-same-length
 same-length c = search needs
 
 returns : tie.Need-returns
-returns c = λ t. let k = c .before .before .before .before .before in let s = start k in childed-shapely (s .pre .1) _ _ (s .pre .0) (k .count-pairs .ensures (true-T (c .before .before .if1 .taken))) (c .all-like .ensures t)
+returns c = λ t. let s = c .before .before .before .before .before .before .before .before .before .before .before .before .before .before in childed-shapely (s .pre .1) _ _ (s .pre .0) (c .before .before .before .before .before .count-pairs .ensures (true-T (c .before .before .if1 .taken))) (c .all-like .ensures t)
 
 same-length-2 : tie.Need-same-length-2
 same-length-2 c = search needs

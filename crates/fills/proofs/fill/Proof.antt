@@ -11,14 +11,14 @@ use Rattle.fills.proofs.fill.Statement.{statement}
 use Rattle.fills.proofs.fill.Tie as tie
 
 abbrev Inv-loop : tie.InvT-loop
-Inv-loop species-parents species-taxa gene-parents gene-taxa places₀ labels₀ q k₀ places labels k = (q ≡ length gene-parents) × (k ≤ q) × Filling-to (pair species-parents species-taxa gene-parents gene-taxa) k places₀ places labels₀ labels
+Inv-loop species-parents species-taxa gene-parents gene-taxa places₀ labels₀ ordered q k₀ places labels k = (q ≡ length gene-parents) × (k ≤ q) × Filling-to (pair species-parents species-taxa gene-parents gene-taxa) k places₀ places labels₀ labels
 
 abbrev μ-loop : tie.MeasureT-loop
-μ-loop species-parents species-taxa gene-parents gene-taxa places₀ labels₀ q k₀ places labels k = q - k
+μ-loop species-parents species-taxa gene-parents gene-taxa places₀ labels₀ ordered q k₀ places labels k = q - k
 
 -- the places gone back to
 abbrev start : tie.After-settle-arg Inv-loop μ-loop → tie.Start Inv-loop μ-loop
-start c = c .before .before .before .before .before .before .before
+start c = c .before .before .before .before .before .before .before .before
 
 abbrev settled : tie.After-mark-arg Inv-loop μ-loop → tie.After-settle Inv-loop μ-loop
 settled c = c .before .before .before
@@ -33,6 +33,9 @@ begun c = start (settled (c .before) .before)
 homed : (c : tie.After-mark Inv-loop μ-loop) → let s = begun c in Homed (pair (s .args .species-parents .now) (s .args .species-taxa .now) (s .args .gene-parents .now) (s .args .gene-taxa .now)) (s .args .places .now) (settled (c .before) .settle .last .1 .1 .0)
 homed c = settled-home (begun c .pre) _ (settled (c .before) .settle .ensures)
 
+in-order-requires : tie.Need-in-order-requires Inv-loop μ-loop
+in-order-requires c κs = let S = c .before .before .before .before .before .before .pre .sound .species .tree in (S .some, S .few)
+
 settle-requires : tie.Need-settle-requires Inv-loop μ-loop
 settle-requires c κs = settleable (start c .pre)
 
@@ -43,7 +46,10 @@ loop-holds : tie.Need-loop-holds Inv-loop μ-loop
 loop-holds c = (refl, search needs, let m = c .before .before in to-start (begun m .pre) (homed m) (m .mark .ensures))
 
 take-requires : tie.Need-take-requires Inv-loop μ-loop
-take-requires c κs = let k = c .before .before .before in record { sound = begun (marked k) .pre .sound; inside = search needs; filling = k .loop .inv .2 .filling }
+take-requires c κs =
+    let k = c .before .before .before in
+    let m = marked k in
+    (record { sound = begun m .pre .sound; inside = search needs; filling = k .loop .inv .2 .filling }, settled (m .before) .before .before .in-order .ensures .0)
 
 add-k : tie.Need-add-k Inv-loop μ-loop
 add-k c = search needs
@@ -69,6 +75,7 @@ fill-spec =
     (tie.spec
     Inv-loop
     μ-loop
+    in-order-requires
     settle-requires
     mark-requires
     loop-holds

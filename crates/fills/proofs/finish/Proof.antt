@@ -32,7 +32,7 @@ join-requires : tie.Need-join-requires
 join-requires c κs = search needs
 
 cast-places : tie.Need-cast-places
-cast-places c = omega (arith, top-node (c .before .join .ensures .left), start (c .before .before) .pre .few)
+cast-places c = omega (arith, top-node (c .before .join .ensures .left), start (c .before .before) .pre .0 .few)
 
 mul-places : tie.Need-mul-places
 mul-places c = search needs

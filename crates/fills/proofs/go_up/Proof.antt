@@ -12,10 +12,10 @@ use Rattle.fills.proofs.go_up.Statement.{statement}
 use Rattle.fills.proofs.go_up.Tie as tie
 
 abbrev Inv-loop : tie.InvT-loop
-Inv-loop species-parents species-taxa gene-parents gene-taxa places₀ labels₀ q v₀ places labels v = (q ≡ length gene-parents) × Going (pair species-parents species-taxa gene-parents gene-taxa) v₀ v places₀ places labels₀ labels
+Inv-loop species-parents species-taxa gene-parents gene-taxa places₀ labels₀ ordered q v₀ places labels v = (q ≡ length gene-parents) × Going (pair species-parents species-taxa gene-parents gene-taxa) v₀ v places₀ places labels₀ labels
 
 abbrev μ-loop : tie.MeasureT-loop
-μ-loop species-parents species-taxa gene-parents gene-taxa places₀ labels₀ q v₀ places labels v = depth gene-parents everyNode v
+μ-loop species-parents species-taxa gene-parents gene-taxa places₀ labels₀ ordered q v₀ places labels v = depth gene-parents everyNode v
 
 -- the places gone back to, and what is known there
 abbrev start : tie.At-loop Inv-loop μ-loop → tie.Start Inv-loop μ-loop
@@ -28,7 +28,7 @@ here-now : (c : tie.At-loop Inv-loop μ-loop) → Going (tables c) (start c .arg
 here-now c = c .loop .inv .1
 
 few : (c : tie.At-loop Inv-loop μ-loop) → length (start c .args .gene-parents .now) ≤ 2047
-few c = start c .pre .sound .genes .few
+few c = start c .pre .0 .sound .genes .few
 
 upper : (c : tie.Then1 Inv-loop μ-loop) → length (start (c .before .before) .args .gene-parents .now) ≤ getD (start (c .before .before) .args .gene-parents .now) (c .before .before .loop .v) 0
 upper c = search needs
@@ -40,7 +40,7 @@ abbrev done-from : tie.After-finish Inv-loop μ-loop → tie.Else2 Inv-loop μ-l
 done-from c = c .before .before .before
 
 loop-holds : tie.Need-loop-holds Inv-loop μ-loop
-loop-holds c = (refl, going-start (c .before .before .before .before .before .before .pre))
+loop-holds c = (refl, going-start (c .before .before .before .before .before .before .pre .0))
 
 mul-u : tie.Need-mul-u Inv-loop μ-loop
 mul-u c = omega (arith, here-now c .inside, few c)
@@ -58,7 +58,7 @@ same-length-2 : tie.Need-same-length-2 Inv-loop μ-loop
 same-length-2 c = here-now (c .before .before) .labels-kept .size
 
 returns : tie.Need-returns Inv-loop μ-loop
-returns c = going-root (start (c .before .before) .pre) (here-now (c .before .before)) (upper c)
+returns c = going-root (start (c .before .before) .pre .0) (here-now (c .before .before)) (upper c)
 
 mul-if2 : tie.Need-mul-if2 Inv-loop μ-loop
 mul-if2 c = omega (arith, lower c, few (c .before .before))
@@ -91,16 +91,16 @@ same-length-4 : tie.Need-same-length-4 Inv-loop μ-loop
 same-length-4 c = simp length-set (here-now (c .before .before .before .before .before) .labels-kept .size)
 
 returns-2 : tie.Need-returns-2 Inv-loop μ-loop
-returns-2 c = let k = c .before .before .before in going-half (start (k .before .before) .pre) (here-now (k .before .before)) (lower k) (c .before .if2 .taken)
+returns-2 c = let k = c .before .before .before in going-half (start (k .before .before) .pre .0) (here-now (k .before .before)) (lower k) (c .before .if2 .taken)
 
 finish-requires : tie.Need-finish-requires Inv-loop μ-loop
-finish-requires c κs = let e = c .before .before in let k = e .before .before in going-ready (start (k .before .before) .pre) (here-now (k .before .before)) (lower k) (e .if2 .left)
+finish-requires c κs = let e = c .before .before in let k = e .before .before in (going-ready (start (k .before .before) .pre .0) (here-now (k .before .before)) (lower k) (e .if2 .left), start (k .before .before) .pre .1)
 
 loop-less : tie.Need-loop-less Inv-loop μ-loop
-loop-less c = let k = done-from (c .before .before .before .before) .before .before in going-nearer (start (k .before .before) .pre) (here-now (k .before .before)) (lower k)
+loop-less c = let k = done-from (c .before .before .before .before) .before .before in going-nearer (start (k .before .before) .pre .0) (here-now (k .before .before)) (lower k)
 
 loop-again : tie.Need-loop-again Inv-loop μ-loop
-loop-again c = let f = c .before .before .before .before in let e = done-from f in let k = e .before .before in (refl, going-done (start (k .before .before) .pre) (here-now (k .before .before)) (lower k) (e .if2 .left) _ _ (f .finish .ensures))
+loop-again c = let f = c .before .before .before .before in let e = done-from f in let k = e .before .before in (refl, going-done (start (k .before .before) .pre .0) (here-now (k .before .before)) (lower k) (e .if2 .left) _ _ (f .finish .ensures))
 
 pub go-up-spec : {M : Type 1} → statement M
 go-up-spec =

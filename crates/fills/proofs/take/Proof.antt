@@ -15,7 +15,7 @@ tables s = pair (s .args .species-parents .now) (s .args .species-taxa .now) (s 
 
 risen : (c : tie.After-go-up) → let s = start c in
     Risen (tables s) (s .args .node .0) (s .args .places .now) (c .go-up .last .1 .1 .1 .1 .0) (s .args .labels .now) (c .go-up .last .1 .1 .1 .1 .1 .0)
-risen c = take-risen (start c .pre) _ _ (c .go-up .ensures)
+risen c = take-risen (start c .pre .0) _ _ (c .go-up .ensures)
 
 mul-if1 : tie.Need-mul-if1
 mul-if1 c = search needs
@@ -24,7 +24,7 @@ shared-slice-read-if1 : tie.Need-shared-slice-read-if1
 shared-slice-read-if1 c = search needs
 
 returns : tie.Need-returns
-returns c = take-inner (c .before .before .before .before .before .before .before .before .pre) (c .if1 .taken)
+returns c = take-inner (c .before .before .before .before .before .before .before .before .pre .0) (c .if1 .taken)
 
 mul-labels : tie.Need-mul-labels
 mul-labels c = search needs
@@ -33,7 +33,7 @@ slice-write-labels : tie.Need-slice-write-labels
 slice-write-labels c = search needs
 
 go-up-requires : tie.Need-go-up-requires
-go-up-requires c κs = take-leaf (c .before .before .before .before .before .before .before .before .before .before .pre) (c .before .before .if1 .left)
+go-up-requires c κs = let s = c .before .before .before .before .before .before .before .before .before .before in (take-leaf (s .pre .0) (c .before .before .if1 .left), s .pre .1)
 
 same-length : tie.Need-same-length
 same-length c = risen (c .before .before .before .before) .places-kept .size

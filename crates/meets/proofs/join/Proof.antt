@@ -1,78 +1,25 @@
--- `meets::join`: where the two meet now is where they met at first. Assumes nothing.
-use Prim.Native.Nat.{ℕ, _+_, _<_}
-use native.Mathlib.Omega.{arith}
-use lib.ListN.{length}
-use Rattle.trees.specs.Trees.{Meet}
-use Rattle.trees.proofs.Meets.{meet-self, meet-swap}
-use Rattle.meets.proofs.Joins.{Turn, turn}
+-- `meets::join`: either way leads to where the two meet. Assumes nothing.
+use Rattle.trees.proofs.Bools.{true-T}
+use Rattle.trees.proofs.Meets.{meet-self}
 use borrow.Author.Needs.{needs}
 use Rattle.meets.proofs.join.Statement.{statement}
 use Rattle.meets.proofs.join.Tie as tie
 
-abbrev Inv-loop : tie.InvT-loop
-Inv-loop species-parents x₀ y₀ x y = (x < length species-parents) × (y < length species-parents) × ((m : ℕ) → Meet species-parents x y m → Meet species-parents x₀ y₀ m)
+returns : tie.Need-returns
+returns c = rw (c .if1 .taken) (meet-self (c .before .before .before .before .pre .2))
 
-abbrev μ-loop : tie.MeasureT-loop
-μ-loop species-parents x₀ y₀ x y = x + y
+join-ordered-requires : tie.Need-join-ordered-requires
+join-ordered-requires c κs = let s = c .before .before .before .before .before in (s .pre .0, s .pre .1, s .pre .2, s .pre .3 (true-T (c .if2 .taken)))
 
--- this turn, on either side
-left : (c : tie.Then1 Inv-loop μ-loop) → Turn (c .before .before .before .args .species-parents .now) (c .before .before .loop .x) (c .before .before .loop .y)
-left c = turn (c .before .before .before .pre .0 .1) _ _ (search needs) (search needs)
+returns-2 : tie.Need-returns-2
+returns-2 c = search needs
 
-right : (c : tie.Else1 Inv-loop μ-loop) → Turn (c .before .before .before .args .species-parents .now) (c .before .before .loop .y) (c .before .before .loop .x)
-right c = turn (c .before .before .before .pre .0 .1) _ _ (search needs) (omega arith)
+join-any-requires : tie.Need-join-any-requires
+join-any-requires c κs = search needs
 
-loop-holds : tie.Need-loop-holds Inv-loop μ-loop
-loop-holds c = (c .pre .1, c .pre .2, λ m M. M)
-
-mul-x : tie.Need-mul-x Inv-loop μ-loop
-mul-x c = search needs
-
-shared-slice-read-x : tie.Need-shared-slice-read-x Inv-loop μ-loop
-shared-slice-read-x c = search needs
-
-cast-x : tie.Need-cast-x Inv-loop μ-loop
-cast-x c = omega (arith, c .shared-slice-known .given (c .before .before .before .loop .x))
-
-loop-less : tie.Need-loop-less Inv-loop μ-loop
-loop-less c = omega (arith, left (c .before) .falls)
-
-loop-again : tie.Need-loop-again Inv-loop μ-loop
-loop-again c = (omega (arith, left (c .before) .falls), search needs, λ m M. c .before .before .before .loop .inv .2 m (left (c .before) .meets m M))
-
-mul-y : tie.Need-mul-y Inv-loop μ-loop
-mul-y c = search needs
-
-shared-slice-read-y : tie.Need-shared-slice-read-y Inv-loop μ-loop
-shared-slice-read-y c = search needs
-
-cast-y : tie.Need-cast-y Inv-loop μ-loop
-cast-y c = omega (arith, c .shared-slice-known2 .given (c .before .before .before .loop .y))
-
-loop-less-2 : tie.Need-loop-less-2 Inv-loop μ-loop
-loop-less-2 c = omega (arith, right (c .before) .falls)
-
-loop-again-2 : tie.Need-loop-again-2 Inv-loop μ-loop
-loop-again-2 c = (search needs, omega (arith, right (c .before) .falls), λ m M. c .before .before .before .loop .inv .2 m (meet-swap (right (c .before) .meets m (meet-swap M))))
-
-returns : tie.Need-returns Inv-loop μ-loop
-returns c = c .before .loop .inv .2 (c .before .loop .x) (rw (c .loop-test .left) (meet-self (c .before .loop .inv .1)))
+returns-3 : tie.Need-returns-3
+returns-3 c = search needs
 
 pub join-spec : {M : Type 1} → statement M
 join-spec =
-    tie.close
-    (tie.spec
-    Inv-loop
-    μ-loop
-    loop-holds
-    mul-x
-    shared-slice-read-x
-    cast-x
-    loop-less
-    loop-again
-    mul-y
-    shared-slice-read-y
-    cast-y
-    loop-less-2
-    loop-again-2
-    returns)
+    tie.close (tie.spec returns join-ordered-requires returns-2 join-any-requires returns-3)

@@ -21,7 +21,7 @@ slice-aggregate-place-nodes-3 : tie.Need-slice-aggregate-place-nodes-3
 slice-aggregate-place-nodes-3 c = search needs
 
 place-nodes-requires : tie.Need-place-nodes-requires
-place-nodes-requires c κs = let s = c .before .before .before .before .before .before .before in unshared-start (s .pre) 2047 (s .pre .species .1 .few)
+place-nodes-requires c κs = let s = c .before .before .before .before .before .before .before in unshared-start (s .pre .0) 2047 (s .pre .1) (s .pre .0 .species .1 .few)
 
 slice-aggregate-all-nested : tie.Need-slice-aggregate-all-nested
 slice-aggregate-all-nested c = search needs
@@ -36,10 +36,10 @@ slice-aggregate-all-nested-4 : tie.Need-slice-aggregate-all-nested-4
 slice-aggregate-all-nested-4 c = search needs
 
 all-nested-requires : tie.Need-all-nested-requires
-all-nested-requires c κs = let p = placed c in let s = start p in codable-start (s .pre) 2047 (s .pre .genes .1 .few) (p .place-nodes .ensures)
+all-nested-requires c κs = let p = placed c in let s = start p in codable-start (s .pre .0) 2047 (s .pre .0 .genes .1 .few) (p .place-nodes .ensures)
 
 returns : tie.Need-returns
-returns c = λ t. let p = placed (c .before .before) in let s = start p in spread-nests (s .pre) (p .place-nodes .ensures) (c .before .all-nested .ensures t)
+returns c = λ t. let p = placed (c .before .before) in let s = start p in spread-nests (s .pre .0) (p .place-nodes .ensures) (c .before .all-nested .ensures t)
 
 pub nested-large-spec : {M : Type 1} → statement M
 nested-large-spec =

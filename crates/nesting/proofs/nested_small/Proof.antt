@@ -21,7 +21,7 @@ slice-aggregate-place-nodes-3 : tie.Need-slice-aggregate-place-nodes-3
 slice-aggregate-place-nodes-3 c = search needs
 
 place-nodes-requires : tie.Need-place-nodes-requires
-place-nodes-requires c κs = let s = c .before .before .before .before .before .before .before in unshared-start (s .pre .0) 255 (s .pre .1)
+place-nodes-requires c κs = let s = c .before .before .before .before .before .before .before in unshared-start (s .pre .0) 255 (s .pre .3) (s .pre .1)
 
 slice-aggregate-all-nested : tie.Need-slice-aggregate-all-nested
 slice-aggregate-all-nested c = search needs

@@ -20,7 +20,7 @@ same-length-3 : tie.Need-same-length-3
 same-length-3 c = search needs
 
 returns : tie.Need-returns
-returns c = let d = c .before .before in let h = d .before .before .before .before .before .before .before .before in laid (h .before .before .before .before .before .before .before .before .pre .tree .1) (h .share-runs .ensures) (d .place-runs .ensures)
+returns c = let d = c .before .before in let h = d .before .before .before .before .before .before .before .before in let s = h .before .before .before .before .before .before .before .before in laid (s .pre .tree .1) (s .pre .first) (h .share-runs .ensures) (d .place-runs .ensures)
 
 pub place-nodes-spec : {M : Type 1} → statement M
 place-nodes-spec =

@@ -18,7 +18,7 @@ abbrev μ-loop : tie.MeasureT-loop
 
 -- the parent read in this turn is a lower node
 inside : (c : tie.In-loop Inv-loop μ-loop) → getD (c .before .before .args .parents .now) (c .before .loop .i) 0 < c .before .loop .i
-inside c = parent-in _ _ (search needs) (c .before .before .pre .0 .1 .order _ (search needs) (search needs))
+inside c = parent-in _ _ (search needs) (c .before .before .pre .2 .order _ (search needs) (search needs))
 
 loop-holds : tie.Need-loop-holds Inv-loop μ-loop
 loop-holds c = (search needs, search needs, c .pre .0 .1 .some, settling-start (c .args .parents .now) (c .args .starts .now) (c .pre .1 .2 .top))
@@ -45,7 +45,7 @@ slice-read-starts-2 : tie.Need-slice-read-starts-2 Inv-loop μ-loop
 slice-read-starts-2 c = let k = c .before .before .before in omega (arith, inside k, k .before .loop .inv .3 .size, k .before .before .pre .1 .2 .off-room)
 
 add-starts : tie.Need-add-starts Inv-loop μ-loop
-add-starts c = let k = c .before .before .before .before in omega (arith, settling-fits (k .before .pre .0 .1) (k .before .pre .1 .2) (search needs) (k .loop .inv .3) (search needs) (search needs))
+add-starts c = let k = c .before .before .before .before in omega (arith, settling-fits (k .before .pre .0 .1) (k .before .pre .2) (k .before .pre .1 .2) (search needs) (k .loop .inv .3) (search needs) (search needs))
 
 mul-starts-3 : tie.Need-mul-starts-3 Inv-loop μ-loop
 mul-starts-3 c = search needs
@@ -60,7 +60,7 @@ loop-less : tie.Need-loop-less Inv-loop μ-loop
 loop-less c = search needs
 
 loop-again : tie.Need-loop-again Inv-loop μ-loop
-loop-again c = let k = c .before .before .before .before in (search needs, search needs, search needs, settling-turn (k .before .pre .0 .1) (k .loop .i) (search needs) (search needs) (k .before .pre .1 .2 .off-room) (k .loop .inv .3))
+loop-again c = let k = c .before .before .before .before in (search needs, search needs, search needs, settling-turn (k .before .pre .0 .1) (k .before .pre .2) (k .loop .i) (search needs) (search needs) (k .before .pre .1 .2 .off-room) (k .loop .inv .3))
 
 same-length : tie.Need-same-length Inv-loop μ-loop
 same-length c = c .before .loop .inv .3 .size

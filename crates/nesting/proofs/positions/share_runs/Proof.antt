@@ -18,7 +18,7 @@ abbrev μ-loop : tie.MeasureT-loop
 
 -- the parent read in this turn is a lower node
 inside : (c : tie.In-loop Inv-loop μ-loop) → getD (c .before .before .args .parents .now) (c .before .loop .i - 1) 0 < c .before .loop .i - 1
-inside c = parent-in _ _ (search needs) (c .before .before .pre .tree .1 .order _ (search needs) (search needs))
+inside c = parent-in _ _ (search needs) (c .before .before .pre .first .order _ (search needs) (search needs))
 
 loop-holds : tie.Need-loop-holds Inv-loop μ-loop
 loop-holds c = (search needs, c .pre .tree .1 .some, shared-start (c .pre), refl, refl, refl)
@@ -60,7 +60,7 @@ slice-read-runs : tie.Need-slice-read-runs Inv-loop μ-loop
 slice-read-runs c = search needs
 
 add-runs : tie.Need-add-runs Inv-loop μ-loop
-add-runs c = let k = c .before .before .before in omega (arith, shared-fits (k .before .before .pre .tree .1) (k .before .loop .i - 1) (search needs) (search needs) (search needs) (k .before .loop .inv .2))
+add-runs c = let k = c .before .before .before in omega (arith, shared-fits (k .before .before .pre .tree .1) (k .before .before .pre .first) (k .before .loop .i - 1) (search needs) (search needs) (search needs) (k .before .loop .inv .2))
 
 mul-runs-2 : tie.Need-mul-runs-2 Inv-loop μ-loop
 mul-runs-2 c = omega (arith, inside (c .before .before .before), c .before .before .before .before .before .pre .tree .1 .few)
@@ -72,7 +72,7 @@ loop-less : tie.Need-loop-less Inv-loop μ-loop
 loop-less c = search needs
 
 loop-again : tie.Need-loop-again Inv-loop μ-loop
-loop-again c = let k = c .before .before .before in (search needs, search needs, shared-turn (k .before .before .pre .tree .1) (k .before .loop .i - 1) (search needs) (search needs) (search needs) (k .before .loop .inv .2), search needs, search needs, search needs)
+loop-again c = let k = c .before .before .before in (search needs, search needs, shared-turn (k .before .before .pre .tree .1) (k .before .before .pre .first) (k .before .loop .i - 1) (search needs) (search needs) (search needs) (k .before .loop .inv .2), search needs, search needs, search needs)
 
 same-length : tie.Need-same-length Inv-loop μ-loop
 same-length c = search needs

@@ -1,0 +1,3 @@
+pub mod Parents
+pub mod Ways
+pub mod One
