@@ -1,6 +1,9 @@
 pub mod Leaves
 pub mod Places
 pub mod Labels
+pub mod Kept
+pub mod KeptKids
+pub mod KeptRenumber
 pub mod Legal
 pub mod Sides
 pub mod Counts
@@ -8,6 +11,7 @@ pub mod Renumber
 pub mod Bounds
 pub mod Beyond
 pub mod Demand
+pub mod KeptHistories
 pub mod Dating
 pub mod Judged
 pub mod Tables

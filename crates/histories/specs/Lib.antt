@@ -1,4 +1,5 @@
 pub mod Places
+pub mod Kept
 pub mod Histories
 pub mod Dating
 pub mod Legal
