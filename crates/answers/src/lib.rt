@@ -1,4 +1,6 @@
 // What an answer reads as: `refused` and the refusal's three numbers, or `ok` and the answer's.
+#![tactic(auto)]
+
 ghost use Rattle.std.specs.Prelude.{◌≡◌};
 ghost use Rattle.dates.specs.Answers.{dated_of};
 ghost use Rattle.answers.specs.Readings.{dated_line};

@@ -4,6 +4,8 @@
 //
 // A first pass finds out whether anything is wrong, and not where. Only where it cannot say yes a scan of the parents counts the
 // children of one node after another.
+#![tactic(auto)]
+
 ghost use Rattle.std.specs.Prelude.{◌≡◌, ℕ, ◌≤◌, ◌<◌, length, T, eqb, [], ◌∷◌};
 ghost use Rattle.trees.specs.Lists.{one};
 ghost use Rattle.trees.specs.Trees.{kids};

@@ -1,5 +1,7 @@
 // What a legal history counts, without depths: from each gene node's place the climb goes up to its parent's place, step by step, by
 // the parents alone. No table is kept.
+#![tactic(auto)]
+
 ghost use Rattle.std.specs.Prelude.{◌≡◌, ◌-◌, ◌*◌, ◌≤◌, ◌<◌, length, eqb};
 ghost use Rattle.trees.specs.Lists.{one};
 ghost use Rattle.trees.specs.Tables.{pair};

@@ -1,5 +1,7 @@
 // What a rack's C program asks: the refusal of an image against the rack's two species tables, and what its history counts; and the
 // least history of a gene tree. Every slice is a pointer and a count of entries on the C side; include/panheron.h declares the calls.
+#![tactic(auto)]
+
 mod ask;
 mod judge;
 

@@ -1,4 +1,6 @@
 // What a history counts: duplications, losses, speciations and climbs, by the depths of the species nodes.
+#![tactic(auto)]
+
 mod depths;
 
 ghost use Rattle.std.specs.Prelude.{◌≡◌, ◌-◌, ◌*◌, ◌≤◌, ◌<◌, length, get_or, eqb};

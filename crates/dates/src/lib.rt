@@ -1,4 +1,6 @@
 // The dating of a gene node: when it was duplicated, in the least history.
+#![tactic(auto)]
+
 ghost use Rattle.std.specs.Prelude.{◌≡◌};
 ghost use Rattle.trees.specs.Tables.{Pair, pair};
 ghost use Rattle.histories.specs.Dating.{dated};

@@ -2,8 +2,10 @@
 ghost use Rattle.std.specs.Prelude.{◌≤◌};
 ghost use Rattle.io.specs.Counts.{IsPrefixLen};
 
-use libc::STDIN_FILENO;
 use talks::{Memory, Talk, spoil};
+
+// The number of standard input.
+const STDIN_FILENO: i32 = 0;
 
 // A number, or 0 where the talk is spoiled; `over` if only blanks were left.
 #[derive(Drop)]

@@ -1,5 +1,7 @@
 // What the program `replay` reads: decimal numbers, and tables of them. What stands in standard input is no part of a promise, since the
 // kit's `read` promises nothing of the bytes.
+#![tactic(auto)]
+
 mod input;
 mod tables;
 

@@ -1,6 +1,8 @@
 // The fill of the least history: up from each gene leaf in turn, in the two lent tables alone. A node is finished when its second child
 // arrives; until then its label says how many have (3: none, 4: one). The leaves' places come first. `ordered`: the species table has
 // parents first, which is found out once.
+#![tactic(auto)]
+
 mod settling;
 
 ghost use Rattle.std.specs.Prelude.{◌≡◌, ◌≤◌, length, T};

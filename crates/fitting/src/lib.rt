@@ -1,5 +1,7 @@
 // Rules 8 and 9 of an offered history, each refused at the lowest gene node at which it does not hold. Rule 8 has a quick test, in
 // three passes over tables: if it says yes, the rule holds everywhere; if it says no, the search tells where it does not.
+#![tactic(auto)]
+
 ghost use Rattle.std.specs.Prelude.{◌≡◌, ◌↔◌, ℕ, ◌≤◌, ◌<◌, length, get_or, T};
 ghost use Rattle.fitting.specs.Tests.{fitting_by};
 ghost use Rattle.fitting.specs.Promises.{Fitting, Placed, JudgeFittingMeets, JudgeHomesMeets};

@@ -1,6 +1,8 @@
 // Hints where a taxon stands, in a table of a kilobyte: 512 entries, each a species node plus 1, or 0 for none. A round enters up to
 // 256 leaves, each at the slot of its taxon or the next free entry. A hint counts only if the node there carries the taxon sought, so
 // that nothing has to be known of what a table holds.
+#![tactic(auto)]
+
 ghost use Rattle.std.specs.Prelude.{◌≡◌, ◌+◌, ◌≤◌, ◌<◌, length};
 ghost use Rattle.hints.specs.Hints.{slot_of_lem, hits};
 ghost use Rattle.hints.specs.Promises.{EnterMeets, AskMeets};

@@ -1,5 +1,9 @@
 // Reads two trees from standard input and prints the least history. All that matters is in the crate `text`.
-use libc::{STDIN_FILENO, STDOUT_FILENO};
+#![tactic(auto)]
+
+// The numbers of standard input and standard output.
+const STDIN_FILENO: i32 = 0;
+const STDOUT_FILENO: i32 = 1;
 
 fn main() {
     // one byte more than a text may have, so that a longer one is seen

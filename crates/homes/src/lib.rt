@@ -1,5 +1,7 @@
 // Are all gene leaves at their species? A leaf is there exactly if its place carries its taxon, since no taxon stands twice among the
 // species. So a history's own places tell where each gene taxon is; what they tell is tested, and nothing is searched for.
+#![tactic(auto)]
+
 ghost use Rattle.homes.specs.Promises.{Homeable, HomedAtMeets, AllHomedMeets};
 
 use trees::GeneNode;

@@ -6,6 +6,8 @@
 // There are two ways to one answer. `judge_species` and `judge_pair`, which the rack calls, need one table of a kilobyte, lent to each
 // rule in turn: child counts in two bits a node, and taxa looked up by rounds of hints. `judge_rack` and `judge_family` serve the
 // images, where a large stack is there anyway: their tables of child counts and of chains take 8 kilobytes and fewer steps.
+#![tactic(auto)]
+
 ghost use Rattle.std.specs.Prelude.{◌≡◌, length, T};
 ghost use Rattle.trees.specs.Sound.{SoundSpecies};
 ghost use Rattle.trees.specs.Tables.{pair};

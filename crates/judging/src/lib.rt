@@ -1,5 +1,7 @@
 // Judging an image on a rack: what `load` refuses it by, and nothing more. No table is lent and nothing is counted; the family is read
 // into tables on the stack, short ones where they will do.
+#![tactic(auto)]
+
 ghost use Rattle.std.specs.Prelude.{◌≡◌, ◌≤◌};
 ghost use Rattle.trees.specs.Rulings.{verdict};
 ghost use Rattle.trees.specs.Answers.{judged_of};

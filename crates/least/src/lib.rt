@@ -1,4 +1,6 @@
 // The least history of a gene tree on a species tree, and its cost.
+#![tactic(auto)]
+
 ghost use Rattle.trees.specs.Tables.{pair};
 ghost use Rattle.least.specs.Promises.{CostMeets, LeastHistoryMeets};
 

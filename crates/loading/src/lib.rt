@@ -1,4 +1,6 @@
 // Loading an image on a rack: a family into four lent tables.
+#![tactic(auto)]
+
 pub mod tables;
 
 ghost use Rattle.std.specs.Prelude.{◌≡◌, ◌&&◌, leb};

@@ -1,4 +1,6 @@
 // A table with two bits for each node, four nodes an entry: 512 entries for 2,047 nodes. The nodes may be of either tree.
+#![tactic(auto)]
+
 ghost use Rattle.std.specs.Prelude.{◌≡◌, ◌<◌, length};
 ghost use Rattle.marks.specs.Bits.{two, more};
 ghost use Rattle.marks.specs.Promises.{BlankMeets, TwoAtMeets, AddOneMeets};

@@ -3,6 +3,8 @@
 // Where parents come first, the one with the higher number goes up. In any other order no number tells which of two nodes is deeper, so
 // an ancestor that both have is looked for near by, and else the root is taken: the steps to it tell by how much one is deeper than the
 // other. The deeper one goes up by that, then both together. It takes no table.
+#![tactic(auto)]
+
 ghost use Rattle.std.specs.Prelude.{◌≤◌, ◌<◌, ◌≡◌, length, T};
 ghost use Rattle.trees.specs.Trees.{Meet};
 ghost use Rattle.trees.specs.First.{ParentsFirst};

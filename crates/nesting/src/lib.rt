@@ -1,5 +1,7 @@
 // Rules 10 and 11. The quick test makes one pass over the gene tree: if it says yes, both hold everywhere. If it says no, the
 // searches tell where they do not.
+#![tactic(auto)]
+
 mod positions;
 
 ghost use Rattle.std.specs.Prelude.{◌≡◌, ◌↔◌, ℕ, ◌≤◌, ◌<◌, length, get_or, take, T};

@@ -1,4 +1,6 @@
 // Decimal numbers in a text, read from a place of it on. One pass: a place is handed on, and never goes back.
+#![tactic(auto)]
+
 ghost use Rattle.std.specs.Prelude.{◌≡◌, ◌≤◌, ◌^◌, ◌&&◌, length, drop, ltb};
 ghost use Rattle.trees.specs.Lists.{pick};
 ghost use Rattle.numbers.specs.Numbers.{digit};

@@ -1,4 +1,6 @@
 // The judge of an offered history: is it legal, and what does it count?
+#![tactic(auto)]
+
 ghost use Rattle.std.specs.Prelude.{T};
 ghost use Rattle.trees.specs.Tables.{pair};
 ghost use Rattle.homes.specs.Homes.{Homed};

@@ -1,4 +1,6 @@
 // Opening an image on a rack: the rack's species 1 to 5, then 13 to 18. Nothing is lent.
+#![tactic(auto)]
+
 ghost use Rattle.std.specs.Prelude.{◌≡◌};
 ghost use Rattle.trees.specs.Rulings.{ruling};
 ghost use Rattle.blocks.specs.Blocks.{count, content};

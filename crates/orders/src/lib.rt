@@ -3,6 +3,8 @@
 //
 // From each node in turn the way goes up to the first node that is listed already, or to the root, and is noted; then it is listed
 // backwards, so that parents come first. A way of n steps that meets neither ends nowhere.
+#![tactic(auto)]
+
 ghost use Rattle.std.specs.Prelude.{◌≡◌, ◌≤◌, ◌<◌, length};
 ghost use Rattle.trees.specs.Lists.{lowest};
 ghost use Rattle.trees.specs.Rules.{reaching};

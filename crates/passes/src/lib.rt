@@ -1,4 +1,6 @@
 // Passes over a table without branches: the compiler makes eight entries a step of them. They serve tables of either tree.
+#![tactic(auto)]
+
 ghost use Rattle.passes.specs.Promises.{NotedMeets, AllBelowMeets};
 
 // What was noted so far, or 1 if this one is not right.

@@ -2,6 +2,8 @@
 //
 // The `put` functions write from the place `at` on, need the room, and answer the place behind what they wrote. The `write`
 // functions write from the start and answer how many bytes; if the buffer is too short they write nothing and answer 0.
+#![tactic(auto)]
+
 ghost use Rattle.std.specs.Prelude.{◌≡◌, ◌+◌, ◌≤◌, length};
 ghost use Rattle.least.specs.Answers.{counts_of};
 ghost use Rattle.printing.specs.Printing.{ended, letter, node_line, counts_line, refused_word};

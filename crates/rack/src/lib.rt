@@ -1,5 +1,7 @@
 // The least history for a rack's C program: a number, and places, labels and counts into three tables that are lent. The crate
 // collector hands the calls to C.
+#![tactic(auto)]
+
 ghost use Rattle.std.specs.Prelude.{◌≡◌, ◌≤◌, length};
 ghost use Rattle.trees.specs.Tables.{pair};
 ghost use Rattle.trees.specs.Lent.{replaced};

@@ -4,6 +4,8 @@
 // From each node in turn the way goes up to a node that is known to reach the root, or to the root; then the same way is gone again and
 // marked. A way of n steps that meets neither ends nowhere, and the node that it began at is the lowest such, since all before it are
 // known. Where the table has parents first there is nothing to look for.
+#![tactic(auto)]
+
 ghost use Rattle.std.specs.Prelude.{◌≡◌, [], ◌∷◌, ◌≤◌, ◌<◌, length};
 ghost use Rattle.trees.specs.Rulings.{each, verdict};
 ghost use Rattle.trees.specs.Rules.{reaching};

@@ -1,4 +1,6 @@
 // What the program `history` reads out of its text: the two counts, then the four tables.
+#![tactic(auto)]
+
 ghost use Rattle.std.specs.Prelude.{◌≡◌, ◌≤◌, ◌++◌, length, drop, replicate};
 ghost use Rattle.trees.specs.Tables.{pair};
 ghost use Rattle.reading.specs.Reading.{counted, tree_widths};

@@ -1,6 +1,8 @@
 // The species tables that stand in an image, compared with a rack's: a release swap shows here. A table is passed with no branch in the
 // loop, so that several entries go at a time: what is found wrong is noted, and asked for at the end. Such a no is not relied on:
 // whoever is told no looks for the place.
+#![tactic(auto)]
+
 ghost use Rattle.std.specs.Prelude.{◌≡◌, ◌+◌, ◌*◌, ◌<◌, true, ◌&&◌, length, eqb};
 ghost use Rattle.blocks.specs.Halves.{words_of, longs_of};
 ghost use Rattle.blocks.specs.Blocks.{run, word, content};

@@ -1,4 +1,6 @@
 // Reads requests from standard input, makes the calls, and prints what they answer and leave. docs/REPLAY.md is its manual.
+#![tactic(auto)]
+
 mod calls;
 mod stored;
 

@@ -3,6 +3,8 @@
 //
 // Most tables have parents first. So a first pass finds out whether this one has: it has no branches, and the compiler makes eight
 // nodes a step of it. Where it has, rules 2 and 38 hold, and quick ways may go by the numbers.
+#![tactic(auto)]
+
 ghost use Rattle.std.specs.Prelude.{◌≡◌, not, ◌&&◌, ◌||◌, ◌≤◌, length, eqb, ltb};
 ghost use Rattle.roots.specs.Promises.{InOrderMeets, JudgeParentsMeets};
 

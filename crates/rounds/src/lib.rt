@@ -1,6 +1,8 @@
 // Rules 5 and 6 on a small stack: one table of hints, a kilobyte that the caller lends and that may hold anything before and after. It
 // is filled anew for each round of 256 species leaves. A first pass by rounds finds out whether anything is wrong, and not where. Only
 // where it cannot say yes a scan looks for the lowest node.
+#![tactic(auto)]
+
 ghost use Rattle.std.specs.Prelude.{◌≡◌, not, ℕ, ◌+◌, ◌≤◌, ◌<◌, length, T, eqb};
 ghost use Rattle.trees.specs.Lists.{one};
 ghost use Rattle.taxa.specs.Searches.{fresh_taxon, known_taxon};

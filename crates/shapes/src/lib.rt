@@ -3,6 +3,8 @@
 //
 // Most trees are sound. So a first pass finds out whether anything is wrong, and not where: it has no branches, and the compiler makes
 // eight nodes a step of it. Only where something is wrong a second pass looks for the lowest node.
+#![tactic(auto)]
+
 ghost use Rattle.std.specs.Prelude.{◌≡◌, not, ℕ, ◌≤◌, ◌<◌, length, get_or, T, eqb};
 ghost use Rattle.trees.specs.Lists.{lowest, one};
 ghost use Rattle.trees.specs.Rulings.{verdict};

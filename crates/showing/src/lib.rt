@@ -1,12 +1,16 @@
 // What the program `replay` shows: lines of numbers, gathered in the second part of its memory and written when that is full. What is
 // written is not in a promise, since the kit's `write` promises nothing of it; what the memory holds is.
+#![tactic(auto)]
+
 ghost use Rattle.std.specs.Prelude.{◌≡◌, ◌≤◌};
 ghost use Rattle.showing.specs.Holding.{Held, held, put_byte_lem, put_bytes_lem};
 ghost use Rattle.showing.specs.Lines.{numeral, spaced, word_bytes, up_to_five_lem, rest_bytes, entry_bytes};
 ghost use Rattle.showing.specs.Promises.{PutTextMeets, PutLineMeets, PutTableMeets};
 
-use libc::STDOUT_FILENO;
 use talks::{Memory, Talk, holding};
+
+// The number of standard output.
+const STDOUT_FILENO: i32 = 1;
 
 // The line `refused` or `ok`, and the first `count` of the numbers.
 #[derive(Drop)]

@@ -1,5 +1,7 @@
 // Rules 10 and 11, by climbing the species tree from every place. What is known of a gene node's children is kept in a table, an entry
 // for each gene node: 65,534 as long as none has been looked at, 65,535 once rule 11 could not hold, else the side of the first.
+#![tactic(auto)]
+
 ghost use Rattle.std.specs.Prelude.{◌≡◌, ◌||◌, ◌≤◌, ◌<◌, length, eqb};
 ghost use Rattle.trees.specs.Sound.{Treelike};
 ghost use Rattle.sides.specs.Promises.{Nestable, JudgeSidesMeets};

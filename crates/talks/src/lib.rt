@@ -2,6 +2,8 @@
 // are written. One lent memory holds what was read and what is still to be written; a Talk says how far both are. Once something can't
 // be read the talk is spoiled: from then on nothing is read, every number reads as 0 and every table as empty, and no line is put. So a
 // caller reads all that it needs in a row and looks at the end whether all of it was there.
+#![tactic(auto)]
+
 ghost use Rattle.talks.specs.Promises.{BeginMeets, SpoilMeets, HoldingMeets};
 
 // The first 65,536 bytes are what was read last, the other 4,096 what is to be written.

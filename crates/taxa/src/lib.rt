@@ -3,6 +3,8 @@
 // Nodes are found by their taxon through chains. All species nodes whose taxa share a slot are one chain, the highest node first:
 // `heads` has the first node of each chain and `earlier` the next lower one of a node's chain, each as the node plus 1, with 0 for
 // none. So a search meets every node that could carry the taxon, and few others. Inner nodes, with taxon 0, are in no chain.
+#![tactic(auto)]
+
 ghost use Rattle.std.specs.Prelude.{◌≡◌, ◌≢◌, ◌≤◌, ◌<◌, length};
 ghost use Rattle.taxa.specs.Searches.{known_taxon};
 ghost use Rattle.taxa.specs.Chains.{slot_of_lem, Linked, Last, FoundBy, Chained, Entered, Indexed, Alone};

@@ -2,6 +2,8 @@
 //
 // `history_text` is the whole program on slices. Nothing is asked of its caller, and its contract fixes its answer and the lent
 // buffer for every text and every buffer. The crate `reading` has what it reads with, `printing` what it prints with.
+#![tactic(auto)]
+
 ghost use Rattle.std.specs.Prelude.{◌≡◌, ◌≤◌, length};
 ghost use Rattle.io.specs.Counts.{IsPrefixLen};
 ghost use Rattle.trees.specs.Tables.{pair};

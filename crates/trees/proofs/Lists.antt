@@ -4,7 +4,7 @@ use native.Mathlib.Omega.{arith}
 use native.Mathlib.Nat.{add-zero, zero-add}
 use native.Mathlib.Numerals.{add-one}
 use native.Mathlib.Decide.{ℕ_discrete}
-use mathlib.Core.Path.{◌≡◌, refl, sym, ap, ap₂, ◌∙◌}
+use mathlib.Core.Path.{◌≡◌, refl, sym, ap, ap₂, ◌∙◌, subst}
 use mathlib.Core.Logic.{◌⊎◌, inl, inr, ◌≢◌}
 use mathlib.Core.Bool.{Bool, true, false, ◌||◌, not}
 use mathlib.Core.List.{List, [], ◌∷◌, ◌++◌, map, nil≢cons, head-eq_of_cons-eq, tail-eq_of_cons-eq}
@@ -99,7 +99,7 @@ unfolding keep_if has
 keep_has p a [] t = absurd t
 keep_has p a (x ∷ l) t =
     elim (keep_cons_if a (p x) x (keep_if p l) t)
-    [ inl e ↦ (rw e.0 e.1, rw e.0 (has_head x l)) | inr r ↦ ((keep_has p a l r).0, has_tail a x l (keep_has p a l r).1) ]
+    [ inl e ↦ (rw e.0 e.1, subst (λ z. T (has z (x ∷ l))) (sym e.0) (has_head x l)) | inr r ↦ ((keep_has p a l r).0, has_tail a x l (keep_has p a l r).1) ]
 
 has_cons_if : (a : ℕ) (b : Bool) (x : ℕ) (l : List ℕ) → ((a ≡ x) × T b) ⊎ T (has a l) → T (has a (cons_if b x l))
 unfolding cons_if
@@ -194,10 +194,10 @@ unfolding has
 first_has p x [] d t s = absurd t
 first_has p x (y ∷ l) d t s =
     elim (test (p y)) [
-      | inl e ↦ rw (first_yes p y l d e) (true_T e, has_head y l)
+      | inl e ↦ subst (λ z. T (p z) × T (has z (y ∷ l))) (sym (first_yes p y l d e)) (true_T e, has_head y l)
       | inr e ↦ elim (has_cases x y l t) [
         | inl q ↦ absurd (rw e at (rw q at s))
-        | inr r ↦ let k = first_has p x l d r s in rw (first_no p y l d e) (k.0, has_tail (first p l d) y l k.1)
+        | inr r ↦ let k = first_has p x l d r s in subst (λ z. T (p z) × T (has z (y ∷ l))) (sym (first_no p y l d e)) (k.0, has_tail (first p l d) y l k.1)
       ]
     ]
 

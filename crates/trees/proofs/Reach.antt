@@ -106,10 +106,10 @@ unfolding is_root
 root_out par r f t = rw (eqb→eq (up par r) none t) f
 
 on_climb : (par : List ℕ) {r x : ℕ} (p : Below par r x) (k : ℕ) → steps p < k → T (has r (climb par k x))
-unfolding steps has
+unfolding steps has up
 on_climb par p zero h = absurd (omega arith)
 on_climb par {r} (here l) (suc k) h = rw (climb_in par k r l) (or_left (eqb r r) (has r (climb par k (up par r))) (eqb_refl r))
-on_climb par {r} {x} (step l p) (suc k) h = rw (climb_in par k x l) (or_right (eqb r x) (has r (climb par k (up par x))) (on_climb par p k (omega arith)))
+on_climb par {r} {x} (step l p) (suc k) h = rw (climb_in par k x l) (or_right (eqb r x) (has r (climb par k (up par x))) (on_climb par {x = up par x} p k (omega arith)))
 
 -- a node reaches the root: it lies below one
 abbrev pub Reaches : List ℕ → ℕ → Type 0

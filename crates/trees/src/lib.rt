@@ -1,4 +1,6 @@
 // The two countings, the refusal, and what a judge answers.
+#![tactic(auto)]
+
 ghost use Rattle.trees.specs.Promises.{RefuseMeets};
 
 // A node of the species tree, by its number.

@@ -1,4 +1,6 @@
 // Writing an image: a family into a lent buffer.
+#![tactic(auto)]
+
 mod put;
 
 ghost use Rattle.writing.specs.Promises.{WriteImageMeets};
