@@ -6,7 +6,7 @@ ghost use Rattle.blocks.specs.Answers.{sums_of};
 ghost use Rattle.blocks.specs.Promises.{AddUpMeets, SealedMeets};
 
 // The sums A and B.
-#[derive(Drop)]
+#[derive(Clone, Copy)]
 pub struct Sums(pub u16, pub u16);
 
 // The sums after one more byte: A grows by the byte, and B by the new A.

@@ -7,7 +7,7 @@ ghost use Rattle.blocks.specs.Promises.{JudgeBlocksMeets};
 use trees::Refusal;
 
 // How many blocks an image has, or why it is refused.
-#[derive(Drop)]
+#[derive(Clone, Copy)]
 pub enum Framed {
     Blocks(usize),
     Refused(Refusal),

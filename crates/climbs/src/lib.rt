@@ -50,7 +50,7 @@ fn same(a: u16, b: u16) -> u32
 }
 
 // What one pass over the gene nodes adds up.
-#[derive(Drop)]
+#[derive(Clone, Copy)]
 struct Sums {
     duplications: u32,
     speciations: u32,

@@ -12,7 +12,7 @@ ghost use Rattle.counts.specs.Promises.{CountHistoryMeets};
 
 use trees::{GeneNode, SpeciesNode};
 
-#[derive(Drop)]
+#[derive(Clone, Copy)]
 pub struct Tally {
     pub duplications: u32,
     pub losses: u32,
@@ -61,7 +61,7 @@ fn steps_of(depths: &[u16], gene_parents: &[u16], places: &[u16], node: GeneNode
 }
 
 // What one pass over the gene nodes adds up.
-#[derive(Drop)]
+#[derive(Clone, Copy)]
 struct Sums {
     duplications: u32,
     speciations: u32,

@@ -10,14 +10,14 @@ ghost use Rattle.dates.specs.Promises.{DateMeets};
 use trees::{GeneNode, Judged, Refusal, SpeciesNode, refuse};
 
 // When a gene node was duplicated. Each kind of answer carries only its own numbers.
-#[derive(Drop)]
+#[derive(Clone, Copy)]
 pub enum Dating {
     NotDuplication,
     From(SpeciesNode),
     Between(SpeciesNode, SpeciesNode),
 }
 
-#[derive(Drop)]
+#[derive(Clone, Copy)]
 pub enum DatingAnswer {
     Dated(Dating),
     Refused(Refusal),

@@ -8,7 +8,7 @@ use talks::{Memory, Talk, spoil};
 const STDIN_FILENO: i32 = 0;
 
 // A number, or 0 where the talk is spoiled; `over` if only blanks were left.
-#[derive(Drop)]
+#[derive(Clone, Copy)]
 pub struct Found {
     pub value: u64,
     pub over: bool,
@@ -16,14 +16,14 @@ pub struct Found {
 }
 
 // How many entries a table has.
-#[derive(Drop)]
+#[derive(Clone, Copy)]
 pub struct Table {
     pub count: usize,
     pub talk: Talk,
 }
 
 // The next byte, which stays the next one; `over` if there is none.
-#[derive(Drop)]
+#[derive(Clone, Copy)]
 pub(crate) struct Seen {
     pub byte: u8,
     pub over: bool,
@@ -84,7 +84,7 @@ fn blank(b: u8) -> bool {
 }
 
 // How far a number has been read. The phase is 0 before its digits and 1 in them; 2 where it is whole, 3 where only blanks were left, and 4 where it is none or is over 18,446,744,073,709,551,609.
-#[derive(Drop)]
+#[derive(Clone, Copy)]
 pub(crate) struct Scan {
     pub value: u64,
     pub phase: u8,

@@ -5,7 +5,7 @@ use crate::{Table, input};
 use talks::{Memory, Talk};
 
 // How many entries each of two tables has.
-#[derive(Drop)]
+#[derive(Clone, Copy)]
 pub struct Tables {
     pub first: usize,
     pub second: usize,

@@ -7,7 +7,7 @@ ghost use Rattle.least.specs.Promises.{CostMeets, LeastHistoryMeets};
 use trees::{Judged, Refusal, refuse};
 
 // What the least history counts.
-#[derive(Drop)]
+#[derive(Clone, Copy)]
 pub struct LeastCounts {
     pub duplications: u32,
     pub losses: u32,
@@ -16,7 +16,7 @@ pub struct LeastCounts {
     pub cost: u64,
 }
 
-#[derive(Drop)]
+#[derive(Clone, Copy)]
 pub enum LeastAnswer {
     Done(LeastCounts),
     Refused(Refusal),

@@ -23,7 +23,7 @@ use opening::Opened;
 use trees::{Judged, Refusal};
 
 // What an image holds: how many species nodes and gene nodes, and what its history counts.
-#[derive(Drop)]
+#[derive(Clone, Copy)]
 pub struct Stored {
     pub species: usize,
     pub genes: usize,
@@ -31,7 +31,7 @@ pub struct Stored {
     pub losses: u32,
 }
 
-#[derive(Drop)]
+#[derive(Clone, Copy)]
 pub enum Loaded {
     Family(Stored),
     Refused(Refusal),

@@ -15,14 +15,14 @@ ghost use Rattle.meets.specs.Promises.{JoinMeets};
 use trees::SpeciesNode;
 
 // A node and the steps that were gone up to it.
-#[derive(Drop)]
+#[derive(Clone, Copy)]
 struct Climb {
     node: SpeciesNode,
     steps: usize,
 }
 
 // The steps from two nodes up to an ancestor of both.
-#[derive(Drop)]
+#[derive(Clone, Copy)]
 struct Steps {
     left: usize,
     right: usize,

@@ -9,7 +9,7 @@ ghost use Rattle.numbers.specs.Cursor.{found, nothing, number_at};
 ghost use Rattle.numbers.specs.Promises.{number_of, SkipBlanksMeets, ReadNumberMeets};
 
 // A number and the place behind it, or none.
-#[derive(Drop)]
+#[derive(Clone, Copy)]
 pub enum Number {
     Read { value: u32, next: usize },
     Malformed,

@@ -11,14 +11,14 @@ ghost use Rattle.offers.specs.Promises.{JudgeRulesMeets, JudgeDescentMeets, Judg
 use trees::{Judged, Refusal, refuse};
 
 // What a legal history counts.
-#[derive(Drop)]
+#[derive(Clone, Copy)]
 pub struct HistoryCounts {
     pub duplications: u32,
     pub losses: u32,
     pub speciations: u32,
 }
 
-#[derive(Drop)]
+#[derive(Clone, Copy)]
 pub enum Offered {
     Legal(HistoryCounts),
     Refused(Refusal),

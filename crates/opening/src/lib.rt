@@ -15,7 +15,7 @@ use trees::{Judged, Refusal, SpeciesSpot};
 use words::read;
 
 // How many gene nodes an image has, or why it is refused.
-#[derive(Drop)]
+#[derive(Clone, Copy)]
 pub enum Opened {
     Genes(usize),
     Refused(Refusal),

@@ -16,7 +16,7 @@ ghost use Rattle.orders.specs.Promises.{Orderable, OrderMeets};
 use trees::{Judged, refuse};
 
 // A way up: how many of its nodes are noted, and whether it ends at a listed node or at the root.
-#[derive(Drop)]
+#[derive(Clone, Copy)]
 struct Way {
     count: usize,
     ends: bool,

@@ -10,14 +10,14 @@ use numbers::{Number, read_number, skip_blanks};
 use trees::Refusal;
 
 // The place behind a table that was filled, or none.
-#[derive(Drop)]
+#[derive(Clone, Copy)]
 pub enum Filled {
     Past(usize),
     Malformed,
 }
 
 // The counts p and q and the place behind them, or why they are refused.
-#[derive(Drop)]
+#[derive(Clone, Copy)]
 pub enum Sizes {
     Both {
         species: usize,

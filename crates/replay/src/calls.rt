@@ -30,7 +30,7 @@ pub(crate) fn put_history(memory: &mut Memory, talk: Talk, places: &[u16], label
 }
 
 // The two weights.
-#[derive(Drop)]
+#[derive(Clone, Copy)]
 struct TwoWeights {
     dw: u16,
     lw: u16,

@@ -13,7 +13,7 @@ use talks::{Memory, Talk, holding};
 const STDOUT_FILENO: i32 = 1;
 
 // The line `refused` or `ok`, and the first `count` of the numbers.
-#[derive(Drop)]
+#[derive(Clone, Copy)]
 pub struct Line {
     pub refused: bool,
     pub count: usize,

@@ -10,7 +10,7 @@ ghost use Rattle.talks.specs.Promises.{BeginMeets, SpoilMeets, HoldingMeets};
 pub type Memory = [u8; 69632];
 
 // The bytes from `at` up to `end` of the memory are still to be looked at, and `used` bytes behind the first 65,536 are still to be written. `more` is false once the talk is spoiled.
-#[derive(Drop)]
+#[derive(Clone, Copy)]
 pub struct Talk {
     pub at: usize,
     pub end: usize,

@@ -4,15 +4,15 @@
 ghost use Rattle.trees.specs.Promises.{RefuseMeets};
 
 // A node of the species tree, by its number.
-#[derive(Drop)]
+#[derive(Clone, Copy)]
 pub struct SpeciesNode(pub usize);
 
 // A node of the gene tree, by its number.
-#[derive(Drop)]
+#[derive(Clone, Copy)]
 pub struct GeneNode(pub usize);
 
 // Where a species node was looked for and found; or nowhere.
-#[derive(Drop)]
+#[derive(Clone, Copy)]
 pub enum SpeciesSpot {
     At(SpeciesNode),
     Nowhere,
@@ -20,7 +20,7 @@ pub enum SpeciesSpot {
 
 // Why a call refuses: the number of 01's table, the tree (0 none, 1 species, 2 gene) and the place, which is a node of that
 // tree, a block of an image or a byte of a text, or 0.
-#[derive(Drop)]
+#[derive(Clone, Copy)]
 pub struct Refusal {
     pub number: u16,
     pub tree: u16,
@@ -28,7 +28,7 @@ pub struct Refusal {
 }
 
 // What a judge answers.
-#[derive(Drop)]
+#[derive(Clone, Copy)]
 pub enum Judged {
     Sound,
     Refused(Refusal),

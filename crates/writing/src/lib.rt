@@ -8,7 +8,7 @@ ghost use Rattle.writing.specs.Promises.{WriteImageMeets};
 use offers::Offered;
 use trees::Refusal;
 
-#[derive(Drop)]
+#[derive(Clone, Copy)]
 pub enum Written {
     Bytes(usize),
     Refused(Refusal),
