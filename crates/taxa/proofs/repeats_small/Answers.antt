@@ -1,0 +1,10 @@
+-- `taxa::repeats_small`. Assumes nothing.
+use native.Mathlib.Omega.{arith}
+use Rattle.taxa.proofs.Chains.{chained_start}
+use Rattle.taxa.proofs.repeats_small.Goals as goal
+
+pub enter_all-requires : goal.enter_all-requires
+enter_all-requires c = chained_start _ 255 c.requires (omega (arith, c.requires))
+
+pub returns : goal.returns
+returns c = c.enter_all.ensures.found
