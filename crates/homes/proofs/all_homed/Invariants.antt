@@ -1,0 +1,15 @@
+-- `homes::all_homed`: the leaves passed are at their species. Assumes nothing.
+use Prim.Native.Nat.{ℕ, ◌-◌, ◌≤◌, ◌<◌}
+use mathlib.Core.Path.{◌≡◌}
+use lib.ListN.{length}
+use lib.Dec.{T}
+use Rattle.passes.specs.Promises.{AllBelow}
+use Rattle.homes.specs.Homes.{homed_by}
+use Rattle.homes.proofs.all_homed.Given as goal
+
+abbrev pub invariant-loop-g : goal.invariant-loop-g
+invariant-loop-g l =
+    (length l.species_taxa ≤ 65535) × AllBelow l.places (length l.gene_taxa) (length l.species_taxa) × (l.q ≡ length l.gene_taxa) × (l.g ≤ l.q) × ((k : ℕ) → k < l.g → T (homed_by l.species_taxa l.gene_taxa l.places k))
+
+abbrev pub decreases-loop-g : goal.decreases-loop-g
+decreases-loop-g l = l.q - l.g
