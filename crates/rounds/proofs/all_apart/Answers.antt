@@ -1,0 +1,18 @@
+-- `rounds::all_apart`: no taxon of a leaf in the rounds passed stands at a later node too. Assumes nothing.
+use Prim.Native.Nat.{◌-◌}
+use Rattle.trees.proofs.Bools.{true_T}
+use Rattle.rounds.proofs.Repeats.{unlike_none, unlike_round, unlike_fresh}
+use borrow.Author.Rules.{rules}
+use Rattle.rounds.proofs.all_apart.Goals as goal
+
+pub loop-from-init : goal.loop-from-init
+loop-from-init c = (search rules, search rules, search rules, search rules, unlike_none _)
+
+pub loop-from-preserved : goal.loop-from-preserved
+loop-from-preserved c = (search rules, search rules, search rules, search rules, unlike_round _ _ _ _ (search rules) (c.round_apart.ensures (true_T c.if-round_apart.true)) c.loop-from.invariant.4)
+
+pub returns-else-round_apart : goal.returns-else-round_apart
+returns-else-round_apart c = λ t. absurd t
+
+pub returns : goal.returns
+returns c = λ t. unlike_fresh _ _ (search rules) c.loop-from.invariant.4
