@@ -15,6 +15,7 @@ pub fn offset_of(i: usize) -> usize
 }
 
 // The byte at which the word behind the one at `at` stands.
+#[tactic(auto, unfolding(crate::specs::Words::after, trees::specs::Lists::pick))]
 pub fn next(at: usize) -> usize
     requires { at < 9223372036854775808 }
     ensures { NextMeets at result }
