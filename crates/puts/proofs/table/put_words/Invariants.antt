@@ -1,0 +1,14 @@
+-- `put_words` meets its contract. The loop's invariant: `at` is where word i + k stands, and the first k entries are put.
+-- The measure is what is left of the table. Assumes nothing.
+use Prim.Native.Nat.{◌+◌, ◌-◌, ◌≤◌}
+use mathlib.Core.Path.{◌≡◌}
+use lib.ListN.{length, take}
+use Rattle.words.specs.Words.{offset}
+use Rattle.puts.proofs.Putting.{Putting}
+use Rattle.puts.proofs.table.put_words.Given as goal
+
+abbrev pub invariant-loop-k : goal.invariant-loop-k
+invariant-loop-k l = (l.k ≤ length l.table) × (l.at ≡ offset (l.i + l.k)) × Putting l.initial.image l.i l.image (take l.k l.table)
+
+abbrev pub decreases-loop-k : goal.decreases-loop-k
+decreases-loop-k l = length l.table - l.k
