@@ -1,0 +1,31 @@
+-- `put_family` meets its contract: form and counts, the tables, the filling, the seals. Assumes nothing.
+use native.Mathlib.Omega.{arith}
+use mathlib.Core.Path.{◌≡◌, refl, ◌∙◌}
+use lib.ListN.{length}
+use Rattle.families.specs.Families.{family}
+use Rattle.writing.proofs.Putting.{length_put, image_within, image_whole, image_put}
+use Rattle.writing.proofs.put.put_family.Goals as goal
+
+pub put_words-requires : goal.put_words-requires
+put_words-requires c = image_within (family c.args.species_parents.now c.args.species_taxa.now c.args.gene_parents.now c.args.gene_taxa.now c.args.places.now c.args.labels.now) _ c.requires _ 0 3 refl (omega arith)
+
+pub put_tables-requires : goal.put_tables-requires
+put_tables-requires c =
+    let kept-1 : length c.put_words.new.image ≡ length c.args.image.now = length_put _ _ _ _ c.put_words.ensures in
+    record { even = c.requires.even; within = image_within (family c.args.species_parents.now c.args.species_taxa.now c.args.gene_parents.now c.args.gene_taxa.now c.args.places.now c.args.labels.now) _ c.requires _ 3 _ kept-1 (omega arith) }
+
+pub put_zeros-requires : goal.put_zeros-requires
+put_zeros-requires c =
+    let kept-1 : length c.put_words.new.image ≡ length c.args.image.now = length_put _ _ _ _ c.put_words.ensures in
+    let kept-2 : length c.put_tables.new.image ≡ length c.args.image.now = length_put _ _ _ _ c.put_tables.ensures ∙ kept-1 in
+    image_within (family c.args.species_parents.now c.args.species_taxa.now c.args.gene_parents.now c.args.gene_taxa.now c.args.places.now c.args.labels.now) _ c.requires _ _ 0 kept-2 (omega arith)
+
+pub seal_all-requires : goal.seal_all-requires
+seal_all-requires c =
+    let kept-1 : length c.put_words.new.image ≡ length c.args.image.now = length_put _ _ _ _ c.put_words.ensures in
+    let kept-2 : length c.put_tables.new.image ≡ length c.args.image.now = length_put _ _ _ _ c.put_tables.ensures ∙ kept-1 in
+    let kept-3 : length c.put_zeros.new.image ≡ length c.args.image.now = length_put _ _ _ _ c.put_zeros.ensures ∙ kept-2 in  image_whole (family c.args.species_parents.now c.args.species_taxa.now c.args.gene_parents.now c.args.gene_taxa.now c.args.places.now c.args.labels.now) _ c.requires _ kept-3
+
+pub returns : goal.returns
+returns c =
+    image_put (family c.args.species_parents.now c.args.species_taxa.now c.args.gene_parents.now c.args.gene_taxa.now c.args.places.now c.args.labels.now) _ c.requires _ _ _ _ c.put_words.ensures c.put_tables.ensures c.put_zeros.ensures c.seal_all.ensures

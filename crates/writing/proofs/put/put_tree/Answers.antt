@@ -1,0 +1,7 @@
+-- `put_tree` meets its contract: taxa behind parents. Assumes nothing.
+use mathlib.Core.Path.{refl}
+use Rattle.writing.proofs.Putting.{puts_on}
+use Rattle.writing.proofs.put.put_tree.Goals as goal
+
+pub returns : goal.returns
+returns c = puts_on _ _ _ _ _ _ _ c.put_words.ensures refl c.put_longs.ensures
