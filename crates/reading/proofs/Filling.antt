@@ -2,6 +2,7 @@
 use Prim.Native.Nat.{ℕ, suc, ◌+◌, ◌-◌, ◌^◌, ◌≤◌, ◌<◌}
 use native.Mathlib.Omega.{arith}
 use native.Mathlib.Numerals.{add-one}
+use native.Mathlib.Nat.{one-le-pow}
 use mathlib.Core.Path.{◌≡◌, refl, sym, ap, ◌∙◌}
 use mathlib.Core.Bool.{false}
 use mathlib.Core.List.{List, [], ◌∷◌, ◌++◌, append_assoc, map-append}
@@ -11,11 +12,11 @@ use Rattle.trees.proofs.Bools.{clash}
 use Rattle.numbers.specs.Numbers.{value, is_number}
 use Rattle.numbers.specs.Words.{words}
 use Rattle.reading.specs.Reading.{tree_widths, fits}
-use Rattle.numbers.specs.Cursor.{nothing, number_from}
+use Rattle.numbers.specs.Cursor.{Find, found, nothing, number_from}
 use Rattle.reading.specs.Readers.{Taken, FilledBy}
 use Rattle.reading.specs.declared.Filled.{Filled}
 use Rattle.reading.specs.declared.Filled.TheVariants.{Past, Malformed}
-use Rattle.numbers.proofs.Cursor.{Got, number_none}
+use Rattle.numbers.proofs.Cursor.{Got, number_got, number_none}
 use Rattle.reading.proofs.Fits.{narrow_number, wide_none, narrow_none, fits_split, fits_one, fits_none}
 
 -- n + 1 + m entries of one width
@@ -82,6 +83,23 @@ module _ (text : List ℕ) (at width : ℕ) (table : List ℕ) (i next : ℕ) (K
 
   pub fill_wide : (v after : ℕ) → Got text next v after → 2 ^ width ≤ v → (more : List ℕ) → fits (replicate (length table) width ++ more) (words (drop at text)) ≡ false
   fill_wide v after G h = short (rw G.split (wide_none width G.own G.number (rw G.told at h)))
+
+-- what is next, as the loop over the parents keeps it: before the last entry, a number that is too wide makes the words no such numbers
+abbrev pub wide_of : Find → ℕ
+wide_of (found v after) = v
+wide_of nothing = 0
+
+abbrev pub TooWide : List ℕ → ℕ → ℕ → ℕ → ℕ → ℕ → Type 0
+TooWide text at width n i next =
+    i < n → 2 ^ width ≤ wide_of (number_from text next) → (more : List ℕ) → fits (replicate n width ++ more) (words (drop at text)) ≡ false
+
+pub fill_too_wide : (text : List ℕ) (at width : ℕ) (table : List ℕ) (i next : ℕ) → Taken text at (replicate i width) (take i table) next
+    → TooWide text at width (length table) i next
+fill_too_wide text at width table i next K l h more = go (number_from text next) refl h
+  where
+    go : (r : Find) → r ≡ number_from text next → 2 ^ width ≤ wide_of r → fits (replicate (length table) width ++ more) (words (drop at text)) ≡ false
+    go (found v after) e h = fill_wide text at width table i next K l v after (number_got text next v after K.inside e) h more
+    go nothing e h = absurd (omega (arith, one-le-pow width 2 (omega arith)))
 
 pub fill_end : (text : List ℕ) (at width : ℕ) (table : List ℕ) (i next : ℕ) → i ≡ length table → Taken text at (replicate i width) (take i table) next → Taken text at (replicate (length table) width) table next
 fill_end text at width table i next e K = let t : take (length table) table ≡ table = take-length table in rw t at (rw e at K)
