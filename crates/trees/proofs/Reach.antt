@@ -4,19 +4,18 @@
 use Prim.Native.Nat.{ℕ, zero, suc, ◌+◌, ◌≤◌, ◌<◌}
 use native.Mathlib.Omega.{arith}
 use native.Mathlib.Decide.{dec_lt, ℕ_discrete}
-use mathlib.Core.Path.{◌≡◌, refl, sym, ap, ◌∙◌, subst}
-use mathlib.Core.Logic.{◌⊎◌, inl, inr, ◌≢◌, ◌↔◌}
-use mathlib.Core.Bool.{Bool}
-use mathlib.Core.List.{List, [], ◌∷◌}
+use mathlib.Core.Path.{◌≡◌, refl, ap, ◌∙◌, subst}
+use mathlib.Core.Logic.{◌⊎◌, inl, inr, ◌↔◌}
+use mathlib.Core.List.{List}
 use lib.ListN.{length, get_or-eq_default}
 use lib.Dec.{T, eqb, eqb→eq, eqb_refl}
 use borrow.Author.Tests.{eq-eqb, ne_eqb}
-use Rattle.trees.specs.Lists.{range, has, any, total}
+use Rattle.trees.specs.Lists.{range, has, total}
 use Rattle.trees.specs.Trees.{none, up, is_root, above, climb, line, Below, here, step, nodes}
 use Rattle.trees.specs.Rules.{reaching}
 use Rattle.trees.proofs.Bools.{or_left, or_right}
-use Rattle.trees.proofs.Lists.{only, any_has, has_any, total_add, total_at, total_le}
-use Rattle.trees.proofs.Lines.{Grounded, low_node, top_node, proper, climb_in, off_line}
+use Rattle.trees.proofs.Lists.{only, any_has, has_any, total_add, total_at}
+use Rattle.trees.proofs.Lines.{Grounded, low_node, proper, climb_in, off_line}
 use Rattle.trees.proofs.Kids.{Rooted}
 
 -- ---- a way up, and how long it is

@@ -8,7 +8,7 @@ use mathlib.Core.List.{List, [], ◌∷◌, ◌++◌}
 use lib.Dec.{T}
 use borrow.Author.Tests.{eq-eqb, ne_eqb}
 use Rattle.trees.specs.Lists.{lowest, pick}
-use Rattle.trees.specs.Rulings.{Ruling, accepted, refused, refused_by, Rule, whole, each, ruling, Fine, fine, verdict, number_of, tree_of, Passes, Fails, Every, done, and}
+use Rattle.trees.specs.Rulings.{Ruling, accepted, refused, refused_by, Rule, whole, each, ruling, fine, verdict, number_of, tree_of, Passes, Fails, Every, done, and}
 use Rattle.trees.specs.declared.Refusal.{Refusal}
 use Rattle.trees.proofs.Bools.{test, T_true, true_T, clash}
 use Rattle.trees.proofs.Lists.{lowest_is, lowest_none, lowest_cases, lowest_same}

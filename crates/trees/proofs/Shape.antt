@@ -9,7 +9,7 @@ use mathlib.Core.List.{List, [], ◌∷◌}
 use lib.ListN.{length}
 use lib.Dec.{T, eqb}
 use borrow.Author.Tests.{eq-eqb, ne_eqb}
-use Rattle.trees.specs.Lists.{range, has, total, one}
+use Rattle.trees.specs.Lists.{has, total, one}
 use Rattle.trees.specs.Trees.{up, line, nodes, kids, Leaf, Inner, is_leaf, depth}
 use Rattle.trees.proofs.Bools.{test, true_T}
 use Rattle.trees.proofs.Lists.{only, has_head, has_tail, total_cong, total_add, total_swap, total_at, total_none, total_le, total_ones}

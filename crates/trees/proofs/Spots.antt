@@ -7,7 +7,7 @@ use mathlib.Core.Logic.{inl, inr}
 use mathlib.Core.Bool.{Bool}
 use borrow.Author.Tests.{eq-eqb, ne_eqb}
 use Rattle.trees.specs.Lists.{lowest, pick}
-use Rattle.trees.specs.Spots.{Spot, spot, nowhere, lowest_spot, species_spot}
+use Rattle.trees.specs.Spots.{spot, nowhere, lowest_spot, species_spot}
 use Rattle.trees.specs.declared.SpeciesNode.{SpeciesNode}
 use Rattle.trees.specs.declared.SpeciesSpot.{SpeciesSpot}
 use Rattle.trees.specs.declared.SpeciesSpot.TheVariants.{At, Nowhere}

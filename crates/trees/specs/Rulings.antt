@@ -9,7 +9,7 @@
 --   verdict rs          == the same where there is nothing to answer but that it is sound
 --   Passes r, Fails r v <-> the rule r holds everywhere; r is refused at v and, if it is a test of each node, holds below v
 -- Assumes nothing.
-use Rattle.std.specs.Prelude.{ℕ, ◌<◌, ◌≡◌, Bool, true, false, List, [], ◌∷◌, eqb, T}
+use Rattle.std.specs.Prelude.{ℕ, ◌<◌, ◌≡◌, Bool, false, List, [], ◌∷◌, eqb, T}
 use Rattle.trees.specs.Lists.{lowest, pick}
 use Rattle.trees.specs.declared.Refusal.{Refusal}
 
