@@ -8,7 +8,7 @@
 --   changed_refused  :  one byte of an accepted image changed, anywhere, to any other value: refusal 14 at that block, and nothing lent is touched
 --   loaded_fewest    :  an accepted image has the fewest blocks that hold its words, and at most 65
 -- Assumes nothing.
-use Prim.Native.Nat.{ℕ, ◌+◌, ◌*◌, ◌/◌, ◌<◌, ◌≤◌}
+use Prim.Native.Nat.{ℕ, ◌*◌, ◌/◌, ◌<◌, ◌≤◌}
 use native.Mathlib.Omega.{arith}
 use native.Mathlib.Decide.{ℕ_discrete}
 use mathlib.Core.Path.{◌≡◌, refl, sym, ap, subst, ◌∙◌}
