@@ -26,6 +26,12 @@ node_length g s l =
       ended_length s 32,
     )
 
+-- behind its two numbers there is room for the letter and the line feed
+pub node_rest : (g s l at : ℕ) {next : ℕ} {old out : List ℕ} → at + length (node_line g s l) ≤ length old
+    → Put at (ended g 32 ++ ended s 32) old out next → next + 2 ≤ length out
+node_rest g s l at h P =
+    omega (arith, P.place, put_length P, length-append (ended g 32) (ended s 32), node_length g s l, ended_length g 32, ended_length s 32)
+
 pub counts_length : (c : Counts) → length (counts_line c)
     ≡ length (decimal c.duplications) + length (decimal c.losses) + length (decimal c.speciations) + length (decimal c.climbs) + length (decimal c.cost) + 5
 unfolding counts_line

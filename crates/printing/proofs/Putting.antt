@@ -72,6 +72,12 @@ module _ (n at : ℕ) (old : List ℕ) where
     pub dig_inside : (at < i) × (i ≤ at + length (decimal n))
     dig_inside = (omega (arith, D.place, decimal_some rest), omega (arith, D.place, ap length D.split, length-append (decimal rest) D.tail))
 
+    -- the digit written next lies in a buffer with room for the number
+    pub dig_room : (b : ℕ) → at + length (ended n b) ≤ length old → (1 ≤ i) × (i < length out)
+    dig_room b h =
+        let d = dig_inside in
+        (omega (arith, d.0), omega (arith, d.1, dig_length, ended_length n b))
+
     -- the digit at i - 1
     one_digit : (d : ℕ) → set out (i - 1) d ≡ sets old (i - 1) (d ∷ D.tail)
     one_digit d =

@@ -45,6 +45,7 @@ pub fn put_number(n: u64, end: u8, at: usize, out: &mut [u8]) -> usize
 }
 
 // The letter of a label: L for a leaf, S for a speciation, D for a duplication.
+#[tactic(auto, unfolding(crate::specs::Printing::letter, trees::specs::Lists::pick))]
 fn letter_of(label: u16) -> u8
     ensures { result ≡ letter label }
 {
