@@ -3,7 +3,7 @@
 --   sound_fits, sound_tables, sound_ruling, sound_printed : of a sound pair, whose text is never too long
 --   canonical-.. : the same of its text with single spaces
 -- Assumes nothing.
-use Prim.Native.Nat.{ℕ, ◌+◌, ◌^◌, ◌≤◌, ◌<◌}
+use Prim.Native.Nat.{ℕ, ◌^◌, ◌≤◌, ◌<◌}
 use native.Mathlib.Omega.{arith}
 use native.Mathlib.Decide.{ℕ_discrete}
 use mathlib.Core.Path.{◌≡◌, sym, ◌∙◌}
