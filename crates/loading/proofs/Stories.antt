@@ -7,7 +7,7 @@ use lib.ListN.{length}
 use Rattle.trees.specs.Tables.{Pair, pair}
 use Rattle.trees.specs.Sound.{Sound}
 use Rattle.trees.specs.Rulings.{Ruling, accepted, refused, ruling, fine, verdict}
-use Rattle.trees.specs.Rules.{sized, family_rules}
+use Rattle.trees.specs.Rules.{family_rules}
 use Rattle.trees.proofs.Rulings.{ruling_all, ruling_stays, ruling_accepted, ruling_passes}
 use Rattle.trees.proofs.Soundness.{family_sound}
 use Rattle.histories.specs.Histories.{History, told, every_node}
