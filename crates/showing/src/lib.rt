@@ -131,6 +131,7 @@ pub fn put_line(memory: &mut Memory, talk: Talk, shown: Line) -> Talk
 }
 
 // An entry of a table: no space before the first.
+#[tactic(auto, unfolding(crate::specs::Lines::entry_bytes, trees::specs::Lists::pick))]
 fn entry(memory: &mut Memory, used: usize, i: usize, n: u64) -> usize
     ensures { ◌≡◌ {A = Held} (held memory.new result) (put_bytes_lem (held memory.old used) (entry_bytes i n)) }
 {
