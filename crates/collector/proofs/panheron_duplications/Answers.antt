@@ -1,0 +1,13 @@
+-- `collector::panheron_duplications`. Assumes nothing.
+use mathlib.Core.Path.{sym, ap, ◌∙◌}
+use Rattle.trees.specs.Rulings.{Ruling}
+use Rattle.families.specs.Loading.{Contents}
+use Rattle.loading.specs.Answers.{loaded_of}
+use Rattle.collector.specs.Host.{duplications_in}
+use Rattle.collector.proofs.panheron_duplications.Goals as goal
+
+pub returns-in-Family : goal.returns-in-Family
+returns-in-Family c = ap (λ (x : Ruling Contents). duplications_in x) (sym (ap loaded_of c.in-Family.is) ∙ c.ask-answer.ensures)
+
+pub returns-in-Refused : goal.returns-in-Refused
+returns-in-Refused c = ap (λ (x : Ruling Contents). duplications_in x) (sym (ap loaded_of c.in-Refused.is) ∙ c.ask-answer.ensures)
