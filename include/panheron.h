@@ -1,8 +1,9 @@
 /* Panheron for C: judges stored images of gene histories against a release, and
  * works out the least history of a gene tree.
  *
- * Link target/staticlib/libcollector.a (x86-64 Linux; `rt staticlib collector`
- * writes it).  The archive needs at most memcpy and memset from outside.
+ * Link target/staticlib/libcollector.a (x86-64 Linux, for processors of x86-64-v2,
+ * as all have been since about 2013; tools/archive builds it).  The archive needs
+ * at most memcpy and memset from outside.
  *
  * Nothing has to be tested before a call: any bytes and entries, of any length,
  * are safe, and each fault is refused by its number.  What a call is given to

@@ -2,7 +2,8 @@
 # out of date, and running x86-64 programs on x86-64 and on Arm.
 #
 # A script sets `root` to the top folder of the repository and then reads this
-# file.  Built files lie in target/, which rt removes as it likes.
+# file.  What is built lies in target/; rt itself builds in crates/NAME/out, and
+# what it made there is copied from it.
 #
 # shellcheck shell=sh
 # shellcheck disable=SC2154 # root is set by the script
@@ -48,13 +49,21 @@ END
 
 # ---- building
 
-# Whether a product is there and no source changed since its building began.
-# A file that was removed shows in its folder.
-is_current() { # PRODUCT SOURCES: names without spaces, below the root
+# The files that a product is made of, but for those that rt makes.
+list_sources() { # SOURCES TEST..: names without spaces, below the root; a test of find
+    sources=$1
+    shift
+    # shellcheck disable=SC2086
+    (cd "$root" && find $sources -path 'crates/*/out' ! -path 'crates/*/*/*' -prune \
+        -o ! -type d "$@" -print | LC_ALL=C sort)
+}
+
+# Whether a product is there, and its sources are those that its stamp lists, none
+# changed since its building began.
+is_current() { # PRODUCT SOURCES
     stamp=$built/${1##*/}.stamp
     [ -e "$root/$1" ] && [ -e "$stamp" ] || return 1
-    # shellcheck disable=SC2086
-    [ -z "$(cd "$root" && find $2 -newer "$stamp" -print | head -n 1)" ]
+    [ "$(list_sources "$2")" = "$(cat "$stamp")" ] && [ -z "$(list_sources "$2" -newer "$stamp")" ]
 }
 
 # Shows what a builder announces, and each crate that rt has proved, as it comes.
@@ -62,18 +71,19 @@ show_progress() {
     while IFS= read -r line; do
         case $line in
         'announced: '*) say "${line#announced: }" ;;
-        'rt: '*' proved ('*' s)') say "${line#rt: }" ;;
+        'crate '*': modules '*) crate=${line#crate } ;;
+        'logic=proved '*) say "${crate%%:*} proved" ;;
         esac
     done
 }
 
 # Builds a product; all that the builder says is shown only if it fails.
-build() { # PRODUCT COMMAND..
+build() { # PRODUCT SOURCES COMMAND..
     product=$1
     base=$built/${1##*/}
-    shift
     rm -f "$base.ended"
-    : >"$base.begun"
+    list_sources "$2" >"$base.begun"
+    shift 2
     { (cd "$root" && "$@") </dev/null 2>&1 && mv "$base.begun" "$base.ended"; } \
         | tee "$base.log" | show_progress
     if [ ! -e "$base.ended" ] || [ ! -e "$root/$product" ]; then
@@ -98,9 +108,7 @@ ensure() { # PRODUCT SOURCES COMMAND..
     (
         take_turn
         is_current "$1" "$2" && exit
-        product=$1
-        shift 2
-        build "$product" "$@"
+        build "$@"
     ) 9>"$built/lock" || exit 3
 }
 
@@ -118,23 +126,29 @@ use_old() { # PROGRAM
 
 # Minutes are those of two cores, from nothing.
 announce() { # MINUTES
-    if [ -d target/stamp ]; then
-        echo "announced: proving and building what is not proved yet of Panheron: up to $1 minutes"
-    else
-        echo "announced: proving and building Panheron: about $1 minutes, once"
-    fi
+    for out in crates/*/out; do
+        if [ -e "$out" ]; then
+            echo "announced: proving and building what is not proved yet of Panheron: up to $1 minutes"
+            return
+        fi
+    done
+    echo "announced: proving and building Panheron: about $1 minutes, once"
 }
 
-# rt does not link a program again that it has proved before.
+# A copy takes its place in one step: the one before may be running.
+take() { # FILE PRODUCT: below the root
+    mkdir -p "${2%/*}" && cp "$1" "$2.new" && mv "$2.new" "$2"
+}
+
+# rt builds no program without running it: on an empty input, with status 0.
 prove_program() { # NAME MINUTES
-    [ -e "target/bin/$1" ] || rm -f "target/stamp/$1"
     announce "$2"
-    rt check "$1"
+    (cd "crates/$1" && rt run >/dev/null) && take "crates/$1/out/$1" "target/bin/$1"
 }
 
 prove_archive() {
     announce 6
-    rt staticlib collector
+    (cd crates/collector_c && rt lib) && take crates/collector_c/out/libcollector_c.a "$archive"
 }
 
 crates='crates crates.txt'
@@ -196,23 +210,20 @@ ensure_rackcheck() {
 
 # ---- running
 
-# Sets `tools` to the kit's folder for this machine, if there is a kit.
+# Sets `tools` to the kit's folder with a loader and a C library, if there is a kit.
 find_kit() {
     home=${RATTLE_HOME:-}
     if [ -z "$home" ] && has_kit; then
         home=$(dirname "$(dirname "$(readlink -f "$(command -v rt)")")")
     fi
-    tools=$home/on/$machine/toolchain
+    tools=$home/toolchain
 }
 
-# Sets `emulator`, empty on x86-64: the one that rt uses, or Debian's.
+# Sets `emulator`, empty on x86-64.
 find_emulator() {
     emulator=
     [ "$machine" != x86_64 ] || return 0
-    find_kit
-    emulator=$tools/bin/qemu-x86_64
-    [ -x "$emulator" ] || emulator=$(command -v qemu-x86_64) \
-        || fail "no emulator for x86-64: install the Debian package qemu-user"
+    emulator=$(command -v qemu-x86_64) || fail "no emulator for x86-64: install the Debian package qemu-user"
 }
 
 # Becomes a program of C.
@@ -221,8 +232,8 @@ run_static() { # PROGRAM ARGUMENTS..
     exec ${emulator:+"$emulator"} "$@"
 }
 
-# Becomes a program that rt linked, run as rt runs it: by the kit's own loader
-# and C library.  Without a kit those of the machine must do.
+# Becomes a program that rt linked, run by the kit's own loader and C library,
+# which it was linked with.  Without a kit those of the machine must do.
 run_linked() { # PROGRAM ARGUMENTS..
     find_emulator
     find_kit

@@ -23,31 +23,28 @@ VERDICT = "15 passed, 0 failed"
 
 DEAREST = """\
 processor time: 2373 s (user 2283, system 90)
-the dearest of 19 parts, in seconds by the clock, with others beside them:
-   112  must-fail offers/accepts_all
-    64  must-fail offers/strict_descent
-    64  must-fail images/filling_left
-    61  proof of images
-    42  proof of offers
-    37  proof of replay
-    33  proof of words
+the dearest of 11 parts, in seconds by the clock:
+   812  rt ci
+   140  tools/archive
     31  tests/c/run.sh
-    28  proof of dialogue
     25  tests/reference/drive.py
+    12  tests/scripts/test_programs.py
+     7  tests/reference/test_reference.py
+     4  tests/reference/test_driver.py
+     3  tests/scripts/test_gate.py
+     2  bench/stack.sh
+     1  bench/test_stack.py
 """
 
 # `rt ci` runs work.py, as a grandchild of the gate, prints ci.txt and ends
-# with the status in ci.status; `rt fmt --check` prints fmt.txt.
+# with the status in ci.status; each call is noted in `calls`.
 RT = """\
 #!/bin/sh
-case $1 in
-fmt) cat fmt.txt ;;
-ci)
-    python3 work.py
-    cat ci.txt
-    exit "$(cat ci.status)"
-    ;;
-esac
+echo "$*" >>calls
+[ "$*" = ci ] || exit 1
+python3 work.py
+cat ci.txt
+exit "$(cat ci.status)"
 """
 
 TWO_SECONDS = "import time\nwhile time.process_time() < 2: pass\n"
@@ -91,15 +88,15 @@ class Gate(unittest.TestCase):
             write(self.path("stubs/" + name), "#!/bin/sh\n")
         write(self.path("stubs/rt"), RT)
         self.rt_says(VERDICT, 0)
-        write(self.path("fmt.txt"), "")
         write(self.path("work.py"), "")
 
     def path(self, name):
         return os.path.join(self.folder, name)
 
-    def rt_says(self, verdict, status):
+    def rt_says(self, verdict, status, edits="5 refused"):
         with open(LOG, encoding="utf-8") as file:
             printed = file.read().split(VERDICT)[0]
+        printed = printed.replace("edits: 5 refused", "edits: " + edits)
         write(self.path("ci.txt"), printed + verdict + "\n")
         write(self.path("ci.status"), "%d\n" % status)
 
@@ -114,8 +111,7 @@ class Gate(unittest.TestCase):
     def fails(self):
         status, lines = self.gate()
         self.assertNotEqual(status, 0)
-        self.assertFalse([line for line in lines[-4:]
-                          if line.endswith(" 0 failed")], lines)
+        self.assertFalse(lines[-2].endswith(" 0 failed"), lines)
 
     def test_passes(self):
         write(self.path("work.py"), TWO_SECONDS)
@@ -130,8 +126,13 @@ class Gate(unittest.TestCase):
             r"processor time: (\d+) s \(user \d+, system \d+\)", lines[-14])
         self.assertGreaterEqual(int(cost[1]), 2)
         self.assertRegex(lines[-13], "the dearest of %d parts"
-                         % (16 + len(self.steps)))
-        self.assertEqual(lines[-12], "   112  must-fail offers/accepts_all")
+                         % (1 + len(self.steps)))
+        self.assertRegex(lines[-12], r" +[2-9]  rt ci")
+
+    def test_rt_is_asked_once_for_everything(self):
+        self.gate()
+        with open(self.path("calls"), encoding="utf-8") as file:
+            self.assertEqual(file.read(), "ci\n")
 
     def test_a_step_fails(self):
         write(self.path(self.steps[-1]), "raise SystemExit(1)\n")
@@ -145,8 +146,22 @@ class Gate(unittest.TestCase):
         self.rt_says("14 passed, 1 failed", 0)
         self.fails()
 
-    def test_layout(self):
-        write(self.path("fmt.txt"), "crates/trees/src/lib.rt\n")
+    def test_rt_ends_badly(self):
+        self.rt_says(VERDICT, 1)
+        self.fails()
+
+    def test_edits_that_only_a_limit_refuses(self):
+        self.rt_says(VERDICT, 0, "5 refused, 1 of them only by a limit")
+        self.assertEqual(self.gate()[0], 0)
+
+    def test_bad_edits(self):
+        for edits in ("4 refused, 1 bad", "0 refused, 12 bad",
+                      "5 refused, 1 of them only by a limit, 2 bad"):
+            self.rt_says(VERDICT, 0, edits)
+            self.fails()
+
+    def test_rt_counts_no_edits(self):
+        write(self.path("ci.txt"), "rt: trees proved\n" + VERDICT + "\n")
         self.fails()
 
 

@@ -23,33 +23,42 @@ from stand_in import write
 ROOT = os.path.dirname(os.path.dirname(os.path.dirname(
     os.path.abspath(__file__))))
 COPIED = ("bin", "tools", "collector", "include")
-COMMANDS = ("bash", "cat", "chmod", "dirname", "env", "find", "flock", "head",
-            "mkdir", "mv", "readlink", "rm", "sed", "sh", "sleep", "tee")
+COMMANDS = ("bash", "cat", "chmod", "cp", "dirname", "env", "find", "flock",
+            "head", "mkdir", "mv", "readlink", "rm", "sed", "sh", "sleep",
+            "sort", "tee", "touch")
 NO_KIT = "no Rattle kit (rt is neither on the PATH nor in /opt/rattle/bin)"
 
-# A kit that proves two crates and builds the program in the file `program`; it
-# notes each call in `calls`, and fails or waits if a file says so.
+# A kit that proves two crates and builds the program in the file `program`, in
+# the crate's folder; `run` also runs it.  It notes each call in `calls`, with
+# the folder, and fails or waits if a file says so.
 RT = """\
 #!/bin/sh
-echo "$*" >>calls
-echo "trees/Proof.antt:1:1: note: large solution"
-echo "rt: trees proved (2 s)"
-[ ! -e rt-fails ] || { echo "rt: judges NOT PROVED (exit 1, 3 s)"; exit 1; }
+name=${PWD##*/}
+cd ../.. || exit 1
+echo "$* in $name" >>calls
+prove() {
+    echo "crate $1: modules loaded=0 checked=2"
+    echo "logic=proved functions=1 statements=trusted"
+}
+prove trees >&2
+[ ! -e rt-fails ] || { echo "logic=not-proved" >&2; exit 1; }
 waited=0
 while [ -e rt-waits ]; do
     sleep 0.05
     waited=$((waited + 1))
     [ "$waited" -lt 200 ] || { echo "rt: waited in vain"; exit 1; }
 done
-echo "rt: judges proved (unchanged since it was last proved)"
-mkdir -p target/stamp target/bin target/staticlib
+prove "$name" >&2
+out=crates/$name/out
+mkdir -p "$out"
 case $1 in
-check)
-    cat program >"target/bin/$2"
-    chmod +x "target/bin/$2"
-    echo "rt: $2 proved (8 s)"
+run)
+    cat program >"$out/$name"
+    chmod +x "$out/$name"
+    echo "rt: running out/$name" >&2
+    "$out/$name"
     ;;
-staticlib) echo >"target/staticlib/lib$2.a" ;;
+lib) echo >"$out/lib$name.a" ;;
 esac
 """
 
@@ -80,6 +89,8 @@ class Case(unittest.TestCase):
         for name in COPIED:
             shutil.copytree(os.path.join(ROOT, name), self.path(name))
         self.write("crates/trees/src/lib.rt", "")
+        for name in ("collector_c", "history", "replay"):
+            self.write("crates/%s/src/main.rt" % name, "")
         self.write("crates.txt", "trees:\n")
         self.write("program", SHOWS_INPUT)
         self.make_commands()
@@ -98,9 +109,7 @@ class Case(unittest.TestCase):
 
     def make_kit(self):
         self.write("kit/bin/rt", RT)
-        tools = "kit/on/%s/toolchain/" % self.machine
-        self.write(tools + "lib/ld-linux-x86-64.so.2", LOADER)
-        self.write(tools + "bin/qemu-x86_64", EMULATOR)
+        self.write("kit/toolchain/lib/ld-linux-x86-64.so.2", LOADER)
 
     def path(self, name):
         return os.path.join(self.folder, name)
@@ -134,6 +143,11 @@ class Case(unittest.TestCase):
 
     def remove_kit(self):
         shutil.rmtree(self.path("kit"))
+
+    def remove_built(self):
+        """All that was built, by rt too."""
+        for name in ("target", "crates/history/out", "crates/replay/out"):
+            shutil.rmtree(self.path(name), ignore_errors=True)
 
     def change_sources(self):
         """A source that is newer than all that was built."""
@@ -213,23 +227,23 @@ class Building(Case):
 
     def test_first_and_second_run(self):
         for name, minutes in self.filters.items():
-            shutil.rmtree(self.path("target"), ignore_errors=True)
+            self.remove_built()
             self.expect(self.run_script(name, text="1 2\n"), 0, "1 2\n", [
                 "%s: proving and building Panheron: about %d minutes, once"
                 % (name, minutes),
-                "%s: trees proved (2 s)" % name,
-                "%s: %s proved (8 s)" % (name, name)])
+                "%s: trees proved" % name, "%s: %s proved" % (name, name)])
             self.expect(self.run_script(name, text="3\n"), 0, "3\n", [])
-        self.assertEqual(self.calls(), ["check history", "check replay"])
+        self.assertEqual(self.calls(), ["run in history", "run in replay"])
 
     def test_rackcheck(self):
         self.write("program", SHOWS_WORDS)
         for said in ([
                 "rackcheck: proving and building Panheron: about 6 minutes, "
-                "once", "rackcheck: trees proved (2 s)"], []):
+                "once", "rackcheck: trees proved",
+                "rackcheck: collector_c proved"], []):
             self.expect(self.run_script("rackcheck", "a", "b", "c d"),
                         0, "a\nb\nc d\n", said)
-        self.assertEqual(self.calls(), ["staticlib collector"])
+        self.assertEqual(self.calls(), ["lib in collector_c"])
 
     def test_changed_sources(self):
         self.run_script("history")
@@ -238,7 +252,38 @@ class Building(Case):
         self.assertEqual(run.stderr.splitlines()[0],
                          "history: proving and building what is not proved "
                          "yet of Panheron: up to 4 minutes")
-        self.assertEqual(self.calls(), 2 * ["check history"])
+        self.assertEqual(self.calls(), 2 * ["run in history"])
+
+    def test_source_that_is_gone_or_new(self):
+        self.write("crates/trees/proofs/gone/Answers.antt", "")
+        self.run_script("history")
+        shutil.rmtree(self.path("crates/trees/proofs"))
+        self.run_script("history")
+        self.write("crates/trees/new", "")
+        os.utime(self.path("crates/trees/new"), (0, 0))
+        self.run_script("history")
+        self.assertEqual(self.calls(), 3 * ["run in history"])
+
+    def test_what_rt_makes_is_no_source(self):
+        self.write("crates/trees/proofs/out/Answers.antt", "")
+        self.run_script("history")
+        later = time.time() + 2
+        self.write("crates/trees/out/rlib/new", "")
+        os.utime(self.path("crates/trees/out/rlib/new"), (later, later))
+        os.utime(self.path("crates/trees"), (later, later))
+        self.run_script("history")
+        self.assertEqual(self.calls(), ["run in history"])
+        os.utime(self.path("crates/trees/proofs/out/Answers.antt"),
+                 (later, later))
+        self.run_script("history")
+        self.assertEqual(self.calls(), 2 * ["run in history"])
+
+    def test_what_rt_made_of_other_sources_is_not_run(self):
+        self.write("crates/history/out/history", SHOWS_WORDS)
+        self.expect(self.run_script("history", text="1\n"), 0, "1\n", [
+            "history: proving and building what is not proved yet of "
+            "Panheron: up to 4 minutes",
+            "history: trees proved", "history: history proved"])
 
     def test_progress_comes_while_it_builds(self):
         self.write("rt-waits", "")
@@ -249,8 +294,8 @@ class Building(Case):
             lines = [run.stderr.readline() for _ in range(2)]
             os.remove(self.path("rt-waits"))
             lines += run.stderr.readlines()
-        self.assertEqual(lines[1:], ["history: trees proved (2 s)\n",
-                                     "history: history proved (8 s)\n"])
+        self.assertEqual(lines[1:], ["history: trees proved\n",
+                                     "history: history proved\n"])
         self.assertEqual(run.returncode, 0)
 
     def test_runs_at_the_same_time_build_once(self):
@@ -268,13 +313,13 @@ class Building(Case):
             "history: another run is building: waiting for it",
             "history: proving and building Panheron: about 4 minutes, once"])
         self.assertEqual([run.returncode for run in runs], [0, 0])
-        self.assertEqual(self.calls(), ["check history"])
+        self.assertEqual(self.calls(), ["run in history"])
 
     def test_what_is_not_proved_is_shown(self):
         self.write("rt-fails", "")
         run = self.run_script("replay")
         self.assertEqual((run.returncode, run.stdout), (3, ""))
-        self.assertIn("rt: judges NOT PROVED (exit 1, 3 s)\nreplay: "
+        self.assertIn("logic=not-proved\nreplay: "
                       "target/bin/replay could not be built\n", run.stderr)
         os.remove(self.path("rt-fails"))
         self.assertEqual(self.run_script("replay").returncode, 0)
@@ -305,6 +350,52 @@ class Building(Case):
         env = {"PATH": self.path("path") + ":" + self.path("kit/bin")}
         run = self.run_script("history", text="1\n", env=env)
         self.assertEqual((run.returncode, run.stdout), (0, "1\n"))
+
+
+class Archive(Case):
+    """tools/archive, for C programs."""
+
+    def test_archive(self):
+        path = self.path("target/staticlib/libcollector.a")
+        for said in (["archive: proving and building Panheron: about 6 "
+                      "minutes, once", "archive: trees proved",
+                      "archive: collector_c proved"], []):
+            self.expect(self.run_script("../tools/archive"), 0, path + "\n",
+                        said)
+        with open(path, encoding="utf-8") as file:
+            self.assertEqual(file.read(), "\n")
+        self.assertEqual(self.calls(), ["lib in collector_c"])
+
+
+class Taken(Case):
+    """tools/take-proved, behind `rt ci`."""
+
+    def setUp(self):
+        super().setUp()
+        self.write("begun", "")
+        for name in self.filters:
+            self.write("crates/%s/out/%s" % (name, name), SHOWS_INPUT)
+
+    def take(self):
+        return self.run_script("../tools/take-proved", self.path("begun"))
+
+    def test_programs_are_not_proved_again(self):
+        self.expect(self.take(), 0, "", [])
+        for name in self.filters:
+            self.expect(self.run_script(name, text="1\n"), 0, "1\n", [])
+        self.assertEqual(self.calls(), [])
+
+    def test_source_that_changed_during_the_run(self):
+        self.change_sources()
+        self.take()
+        self.run_script("history")
+        self.assertEqual(self.calls(), ["run in history"])
+
+    def test_nothing_left(self):
+        os.remove(self.path("crates/replay/out/replay"))
+        run = self.take()
+        self.assertEqual(run.returncode, 3)
+        self.assertIn("rt ci left no replay", run.stderr)
 
 
 class WithoutKit(Case):
