@@ -62,6 +62,7 @@ fn is_framed(image: &[u8]) -> bool
 }
 
 // 16 to 18 of an image whose blocks are right.
+#[tactic(auto, using(crate::proofs::Opening::refused_16))]
 fn judge_content(species_parents: &[u16], species_taxa: &[u32], image: &[u8]) -> Opened
     requires { Fitted species_parents.now species_taxa.now image.now }
     ensures { opened_of result ≡ ruling (content_rules species_parents.now species_taxa.now image.now) (gene_count (content image.now)) }
