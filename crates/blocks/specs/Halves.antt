@@ -1,11 +1,11 @@
 -- Numbers as two halves each, the low one first: words as bytes, numbers of 32 bits as words.
---   Under m l    <-> every entry of l is below m
---   halves b l   == each number as its two digits in base b, low first
---   joined b l   == each two digits as one number again
---   bytes_of w    == the bytes of words of 16 bits                                    (01, "numbers low byte first")
---   words_of s    == the words that bytes hold
---   low_high_lem l    == the words of numbers of 32 bits                                  (01, "two words each, low first")
---   longs_of w    == the numbers of 32 bits that words hold
+--   Under m l      <-> every entry of l is below m
+--   halves b l     == each number as its two digits in base b, low first
+--   joined b l     == each two digits as one number again
+--   bytes_of w     == the bytes of words of 16 bits                                   (01, "numbers low byte first")
+--   words_of s     == the words that bytes hold
+--   low_high_lem l == the words of numbers of 32 bits                                     (01, "two words each, low first")
+--   longs_of w     == the numbers of 32 bits that words hold
 -- Assumes nothing.
 use Rattle.std.specs.Prelude.{ℕ, ◌+◌, ◌*◌, ◌/◌, ◌%◌, ◌<◌, List, [], ◌∷◌, slice_index}
 

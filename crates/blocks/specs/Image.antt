@@ -1,9 +1,9 @@
 -- The image of a list of words, and the rules that refuse a list of bytes.
---   fewest c           == the fewest blocks that hold c words                         (01, "in the fewest blocks that hold them")
---   filled w           == the words w, and zeros up to the last block's end           (01, "The rest of the last block is zero")
+--   fewest c            == the fewest blocks that hold c words                        (01, "in the fewest blocks that hold them")
+--   filled w            == the words w, and zeros up to the last block's end          (01, "The rest of the last block is zero")
 --   image_of w          == the image of the words w
---   blank w            == are the words w all zero?
---   sized limit s      == 13: "image length 0, no multiple of 512, or over 65 blocks"
+--   blank w             == are the words w all zero?
+--   sized limit s       == 13: "image length 0, no multiple of 512, or over 65 blocks"
 --   block_rules limit s == 13, 14, 15 in order; the limit is 65 for form 1
 -- What the words mean is no matter here. Assumes nothing.
 use Rattle.std.specs.Prelude.{ℕ, ◌+◌, ◌-◌, ◌*◌, ◌/◌, ◌%◌, Bool, ◌&&◌, List, [], ◌∷◌, ◌++◌, length, replicate, ◌==◌, nat_eq, nat_le}

@@ -2,7 +2,7 @@
 --   fits parents taxa == do the lengths make two equal tables?                           (01, "lengths that don't make two equal tables give 1")
 --   rack_parents b, rack_taxa b == the tables: "Tables come as bytes, low byte first"; 2 bytes a parent, 4 a taxon
 --   Halved parents taxa n <-> the lengths make two tables of n entries
---   host_ruling ..     == what loading the image on the rack answers; 1 where the lengths do not fit
+--   host_ruling ..    == what loading the image on the rack answers; 1 where the lengths do not fit
 --   duplications_in, losses_in == the number that each of these calls answers; number_in, tree_in and place_in are the rack's
 -- Assumes nothing.
 use Rattle.std.specs.Prelude.{ℕ, ◌*◌, ◌/◌, ◌%◌, ◌≡◌, Bool, ◌&&◌, List, length, replicate, eqb}

@@ -1,5 +1,5 @@
 -- What is counted of a history.
---   Totals           == duplications, losses, speciations and climbs
+--   Totals            == duplications, losses, speciations and climbs
 --   tallied_of r      == the numbers that the function hands back
 --   history_tally w h == what 01 counts of h
 --   Story w places labels <-> a legal history of two sound trees, in tables that are long enough

@@ -1,12 +1,12 @@
 -- The words of a family, form 1.                                                      (01, "The stored image, form 1")
 --   Family             == the tables of a family: those of the two trees, and a place and a label for each gene node
 --   family ..          == the family of six tables
---   tables_of f         == "p species parents, p species taxa (two words each, low first), q gene parents, q gene taxa, q places, q labels"
---   family_words f      == "1 (the form), species count p, gene count q", and the tables
+--   tables_of f        == "p species parents, p species taxa (two words each, low first), q gene parents, q gene taxa, q places, q labels"
+--   family_words f     == "1 (the form), species count p, gene count q", and the tables
 --   species_count w, gene_count w == p and q, as the words w give them
---   word_count p q      == how many words a family has                                  (01, "So there are 3 + 3p + 5q words")
---   family_at i p q w   == the tables of p species nodes and q gene nodes that stand in the words w from word i on
---   family_of w         == the family that the words w hold
+--   word_count p q     == how many words a family has                                   (01, "So there are 3 + 3p + 5q words")
+--   family_at i p q w  == the tables of p species nodes and q gene nodes that stand in the words w from word i on
+--   family_of w        == the family that the words w hold
 --   Even f             <-> its species tables are of one length, and so are its gene tables
 -- Blocks, checks and bytes are no matter here. Assumes nothing.
 use Rattle.std.specs.Prelude.{ℕ, ◌+◌, ◌*◌, ◌≡◌, List, ◌∷◌, ◌++◌, length, get_or}

@@ -1,10 +1,10 @@
 -- Loading an image on a rack.
---   limit             == 65: "65 blocks at most"
---   in_size_lem k          == is k a number of nodes?                                       (01, "p or q is 0 or over 2,047")
---   framed n w        == 17 for n blocks that hold the words w: "p or q is 0 or over 2,047, block count not the fewest, or filling not zero"
+--   limit              == 65: "65 blocks at most"
+--   in_size_lem k      == is k a number of nodes?                                           (01, "p or q is 0 or over 2,047")
+--   framed n w         == 17 for n blocks that hold the words w: "p or q is 0 or over 2,047, block count not the fewest, or filling not zero"
 --   form_rules n w     == 16 and 17
 --   rack_rules sp st w == 18: "species tables aren't the rack's", "lowest differing node; 65,535 if counts differ"
---   Lent, lends q t   == the four lent tables; 7: has each at least q entries?
+--   Lent, lends q t    == the four lent tables; 7: has each at least q entries?
 --   content_rules ..   == 16 to 18, of an image whose blocks are right
 --   open_rules ..      == the rules that need no lent table: "rack's species 1-5, then 13-18"
 --   entry_rules ..     == those and "7 for the four lent tables"
@@ -13,7 +13,7 @@
 --   table_after e r q new old == what a lent table holds after the rulings e of the entry and r of the story:
 --                        unchanged; "the first q entries .. zero and the rest unchanged"; the first q entries new
 --   zeroed_all q t     == the first q entries of the four tables zero, the rest as it was
---   Loading, load ..  == the outcome of a call
+--   Loading, load ..   == the outcome of a call
 -- Assumes nothing.
 use Rattle.std.specs.Prelude.{ℕ, Bool, ◌&&◌, List, [], ◌∷◌, ◌++◌, length, get_or, drop, eqb, leb}
 use Rattle.trees.specs.Tables.{Pair, pair}

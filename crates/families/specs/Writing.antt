@@ -1,7 +1,7 @@
 -- Writing an image.
 --   stored_family w places labels == what is stored: the trees, and the first q places and labels      (01, "of which the first q count")
---   family_image f     == the image of a family
---   write_rules ..     == "writing 7, 8-11, 12", after the trees'
+--   family_image f    == the image of a family
+--   write_rules ..    == "writing 7, 8-11, 12", after the trees'
 --   Writing           == what a call answers, the number of bytes or a refusal, and what it leaves in the lent buffer
 --   write ..          == the outcome of a call
 -- Assumes nothing.

@@ -4,7 +4,7 @@
 --   Arrived l v c     <-> c is finished and has told its parent; v is the node that is still to tell
 --   Filling w k v p l <-> the leaves below k are finished, and so is every node whose children all are; all that is finished is right;
 --                         the leaves from k on have their places
---   kind_of m a b      == the label of an inner node at m whose children sit at a and b
+--   kind_of m a b     == the label of an inner node at m whose children sit at a and b
 --   Kept q old new    <-> the entries behind the first q are as they were
 --   Ready, Finished; Rising, Risen; Marked; Taking; FilledFrom
 --                     <-> what the steps of the fill need and leave

@@ -1,9 +1,9 @@
 -- What a table of hints answers: the first hint from the slot of the taxon on that leads to a node with it, before the first empty
 -- entry. Of this only that it is a function of the tables and the taxon is used, and `ask_at` of proofs/Asked.antt.
---   slot_of_lem t               == where the search for the taxon t begins
+--   slot_of_lem t          == where the search for the taxon t begins
 --   hits st t h            == does the hint h, a node plus 1, lead to a node that carries t?
 --   probe st hints t k at  == what k probes from the entry `at` on find (entry 0 follows entry 511)
---   ask_of st hints t       == what 512 probes from the slot of t on find
+--   ask_of st hints t      == what 512 probes from the slot of t on find
 -- Assumes nothing.
 use Rattle.std.specs.Prelude.{ℕ, zero, suc, ◌+◌, ◌-◌, ◌*◌, ◌/◌, ◌%◌, Bool, ◌&&◌, List, length, get_or, eqb, ltb}
 use Rattle.trees.specs.Lists.{pick}

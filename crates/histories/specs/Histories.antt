@@ -1,19 +1,19 @@
 -- Histories, the least one, and what they count.                                        (01, "The least history")
---   History           == a place and a label for each gene node; labels: "0 leaf, 1 speciation, 2 duplication"
+--   History            == a place and a label for each gene node; labels: "0 leaf, 1 speciation, 2 duplication"
 --   told places labels == the history that two tables tell
---   Agree w h k       <-> h and k have the same place and label at every gene node
---   label w g         == the label of g in the least history                           (003, definition 2)
---   least w           == the least history
+--   Agree w h k        <-> h and k have the same place and label at every gene node
+--   label w g          == the label of g in the least history                          (003, definition 2)
+--   least w            == the least history
 --   least_places w, least_labels w == its tables, as the call writes them
 --   every_node         == the counted set of the base: every species node
 --   depth_in w s       == the depth of species node s                                   (01, "Depths are those of the whole species tree")
---   edge d h g c      == the losses on the edge from g down to its child c
+--   edge d h g c       == the losses on the edge from g down to its child c
 --   losses_at d gp h g == the losses on the edges from g down; a leaf has none
---   losses d gp h     == "the sum over all edges"
+--   losses d gp h      == "the sum over all edges"
 --   climbs_at d gp h g == the climbs at g; a leaf has none
---   climbs d gp h     == "Total over inner nodes"
+--   climbs d gp h      == "Total over inner nodes"
 --   duplications gp h, speciations gp h == how many gene nodes h labels so
---   cost dw lw ds ls  == "dw × duplications + lw × losses"
+--   cost dw lw ds ls   == "dw × duplications + lw × losses"
 --   losses_in w h, climbs_in w == the losses of h and the climbs of the least history, by depth_in
 -- d is a depth of species nodes; where it is `depth w.sp counted`, only the proper ancestors in the set `counted` count. None of it
 -- asks how nodes are numbered. Assumes nothing.

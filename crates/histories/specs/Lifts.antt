@@ -1,5 +1,5 @@
 -- By how much an offered history lies above the least one.
---   inner_nodes par    == the inner nodes
+--   inner_nodes par   == the inner nodes
 --   root par          == the node without a parent
 --   lift d w h g      == our depth of g's place less the offered depth
 --   extra w h g       == 1 if only the offer calls g a duplication, else 0

@@ -1,6 +1,6 @@
 -- Gene leaves at their species.
 --   homed_by st gt pl g == has gene node g no taxon, or a place that carries it? Where rules 4, 5 and 8 hold this is rule 9
---   Homed st gt pl     <-> each gene node with a taxon has a place that carries it
+--   Homed st gt pl      <-> each gene node with a taxon has a place that carries it
 -- Assumes nothing.
 use Rattle.std.specs.Prelude.{ℕ, ◌<◌, ◌≡◌, ◌≢◌, Bool, ◌||◌, List, length, get_or, eqb}
 use Rattle.trees.specs.Tables.{taxon}

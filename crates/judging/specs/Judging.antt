@@ -2,7 +2,7 @@
 --   table_rules sp st t  == the gene rules and the rules of descent, of four tables on a rack
 --   stored_rules sp st s == the same, of the tables in an image
 --   image_rules sp st s  == all of a load but 7: "rack's species 1-5, then 13-18 .. then gene 2, 3, 4, 6, then 8-11", with 38 after 2
---   plain r             == a ruling without its value: sound, or number, tree and place
+--   plain r              == a ruling without its value: sound, or number, tree and place
 -- Assumes nothing.
 use Rattle.std.specs.Prelude.{ℕ, List, ◌++◌}
 use Rattle.trees.specs.Rulings.{Rule, Ruling, accepted, refused, Fine, fine}

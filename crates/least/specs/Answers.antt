@@ -1,6 +1,6 @@
 -- What the least history answers, in the paper's terms.
---   counts_of c     == the counts handed back, as the paper's
---   least_of r      == the answer of the least history: the counts, or number, tree and place
+--   counts_of c    == the counts handed back, as the paper's
+--   least_of r     == the answer of the least history: the counts, or number, tree and place
 -- Assumes nothing.
 use Rattle.trees.specs.Rulings.{Ruling, accepted, refused_by}
 use Rattle.histories.specs.Rules.{Counts}

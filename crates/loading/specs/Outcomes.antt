@@ -1,10 +1,10 @@
 -- What the steps of a load leave in the four lent tables. `lent` and `genes_at` stand in promises; the others are private to the steps of
 -- `load_image`.
 --   lent gp gt places labels == the four tables
---   genes_at w i q     == the tables of q gene nodes and of their history that stand in the words w from word i on
---   cleared_all t      == zero in every entry of the four tables
---   story_after r f q  == what four tables of q entries hold after the ruling r of the stored family f: its tables, or all zero
---   story_outcome ..   == what loading the family f on a rack answers and leaves, once the image has opened
+--   genes_at w i q    == the tables of q gene nodes and of their history that stand in the words w from word i on
+--   cleared_all t     == zero in every entry of the four tables
+--   story_after r f q == what four tables of q entries hold after the ruling r of the stored family f: its tables, or all zero
+--   story_outcome ..  == what loading the family f on a rack answers and leaves, once the image has opened
 -- Assumes nothing.
 use Rattle.std.specs.Prelude.{ℕ, ◌+◌, ◌*◌, List, length, replicate}
 use Rattle.blocks.specs.Halves.{longs_of}

@@ -1,10 +1,10 @@
 -- A table that has two bits for each node, four nodes an entry.
---   two x k       == the two bits of the entry x at place k, as a number
---   more x k      == x with one more there
---   two_at_lem c g     == the two bits of node g
---   raised c u    == c with one more at node u
---   Counted c u d <-> d has one more than c at node u, and is as c elsewhere
---   Blank c       <-> 512 zeros
+--   two x k        == the two bits of the entry x at place k, as a number
+--   more x k       == x with one more there
+--   two_at_lem c g == the two bits of node g
+--   raised c u     == c with one more at node u
+--   Counted c u d  <-> d has one more than c at node u, and is as c elsewhere
+--   Blank c        <-> 512 zeros
 -- Assumes nothing.
 use Rattle.std.specs.Prelude.{ℕ, ◌+◌, ◌*◌, ◌/◌, ◌%◌, ◌^◌, ◌<◌, ◌≡◌, ◌≢◌, List, length, get_or, set}
 

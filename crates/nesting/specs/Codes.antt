@@ -1,8 +1,8 @@
 -- Private to the quick test: where each gene node's place lies in its parent's place's run, and what that tells; nothing of it is
 -- part of a promise.
---   ahead_of a b               == how far position a lies after b, among 65,536 in a ring: a position before b is very far after it
---   side_code_lem d t              == 0 at a node's own position, 1 before its turn t, 2 from there on; d is how far after the node's
---   far_of gp pl start c       == how far the place of c lies after its parent's place
+--   ahead_of a b              == how far position a lies after b, among 65,536 in a ring: a position before b is very far after it
+--   side_code_lem d t         == 0 at a node's own position, 1 before its turn t, 2 from there on; d is how far after the node's
+--   far_of gp pl start c      == how far the place of c lies after its parent's place
 --   child_code gp pl start turn c == the code of c's side of its parent's place
 --   Codable .. sides          <-> what looking at all gene nodes needs; no code is added up yet
 --   Coding .. c sides         <-> the gene nodes below c lie inside their parents' places' runs, and their codes are added up

@@ -1,8 +1,8 @@
 -- What the reader finds from a place of the text on.
---   gap text           == how many blanks the text begins with
+--   gap text            == how many blanks the text begins with
 --   word_of text        == the word that the text begins with: its bytes up to the first blank or the end
 --   past_blanks text at == the first place from `at` on with no blank, or the end
---   Find               == a number and the place behind it, or nothing
+--   Find                == a number and the place behind it, or nothing
 --   number_at text at   == the word that begins at `at`, if it is a number of 32 bits
 --   number_from text at == the first word from `at` on, if it is a number of 32 bits
 -- Assumes nothing.

@@ -1,8 +1,8 @@
 -- Numbers as text.
---   digit b             == is the byte b a decimal digit, "0" to "9"?
---   value word          == the number that digits spell, the highest first
+--   digit b              == is the byte b a decimal digit, "0" to "9"?
+--   value word           == the number that digits spell, the highest first
 --   is_number width word == the word is a number of that many bits     (01, "A number is 1 to 10 digits and fits its table's width")
---   decimal n           == the digits of n, the highest first, without leading zeros
+--   decimal n            == the digits of n, the highest first, without leading zeros
 -- A byte is its ASCII code: "0" is 48. Assumes nothing.
 use Rattle.std.specs.Prelude.{ℕ, zero, suc, ◌+◌, ◌-◌, ◌*◌, ◌/◌, ◌%◌, ◌^◌, Bool, ◌&&◌, List, [], ◌∷◌, ◌++◌, length, ltb, leb}
 use Rattle.trees.specs.Lists.{all, pick}

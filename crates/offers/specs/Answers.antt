@@ -1,7 +1,7 @@
 -- What the judge of an offered history answers, in the paper's terms.
 --   offered_counts c  == the counts handed back, as the paper's
 --   offered_of r == the answer: the counts, or number, tree and place
---   Offerable   <-> what judging on sound trees needs
+--   Offerable    <-> what judging on sound trees needs
 -- Assumes nothing.
 use Rattle.std.specs.Prelude.{ℕ, ◌≤◌, List, length}
 use Rattle.trees.specs.Rulings.{Ruling, accepted, refused_by}

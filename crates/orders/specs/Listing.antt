@@ -1,14 +1,14 @@
 -- Private to the functions of this crate: nodes that have a position, so that parents come first. Nothing of it is part of a promise.
---   Has spots x          <-> x has a position
+--   Has spots x               <-> x has a position
 --   spot_over_lem par spots x == the position of the parent of x; none at the root
---   has_one spots x       == 1 if x has a position, else 0
+--   has_one spots x           == 1 if x has a position, else 0
 --   Listing par c spots copy <-> c nodes have the positions below c, each its own; each with a parent has it before itself, and copy has
 --                            the parents by position
---   Room par spots way   <-> what noting a way needs; each node with a position reaches the root
---   Noted .. k           <-> the first k entries of way go up from x, each to its parent; the last has no parent or one with a position
---   WayMeets .. r        <-> what noting a way leaves: it ends exactly if the node reaches the root
---   Next, Done           <-> what listing a node needs and leaves
---   Listable, Listed     <-> what listing a way needs and leaves
+--   Room par spots way        <-> what noting a way needs; each node with a position reaches the root
+--   Noted .. k                <-> the first k entries of way go up from x, each to its parent; the last has no parent or one with a position
+--   WayMeets .. r             <-> what noting a way leaves: it ends exactly if the node reaches the root
+--   Next, Done                <-> what listing a node needs and leaves
+--   Listable, Listed          <-> what listing a way needs and leaves
 -- Assumes nothing.
 use Rattle.std.specs.Prelude.{ℕ, ◌+◌, ◌≤◌, ◌<◌, ◌≡◌, ◌⊎◌, ◌≢◌, not, List, length, get_or, T, eqb, ltb}
 use Rattle.trees.specs.Lists.{total, one, pick}

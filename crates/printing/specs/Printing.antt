@@ -1,13 +1,13 @@
 -- What the program prints.                                                               (01, "The host and the program")
---   ended n b         == the number n and the byte behind it
---   letter l          == the letter of a label                         (01, "letter (L, S, D)", for labels 0, 1, 2)
+--   ended n b          == the number n and the byte behind it
+--   letter l           == the letter of a label                        (01, "letter (L, S, D)", for labels 0, 1, 2)
 --   node_line g s l    == the line of gene node g: "a line of node, place, letter"
 --   history_lines h gs == the lines of the gene nodes gs in the history h
 --   counts_line c      == "a line of duplications, losses, speciations, climbs, cost"
 --   refused_line n t v == "A refusal prints one line only, as `refused 1 2 0`: number, tree, place"
---   report w r        == what is printed of the tables w if r is answered
---   answered w        == what is printed of the tables w: their least history, or the first of the trees' own refusals
---   printed text      == the bytes that the program prints when it reads the text
+--   report w r         == what is printed of the tables w if r is answered
+--   answered w         == what is printed of the tables w: their least history, or the first of the trees' own refusals
+--   printed text       == the bytes that the program prints when it reads the text
 -- Space is 32, line feed 10; "Every printed line ends with a line feed". Assumes nothing.
 use Rattle.std.specs.Prelude.{ℕ, List, [], ◌∷◌, ◌++◌, eqb}
 use Rattle.trees.specs.Lists.{pick}

@@ -1,6 +1,6 @@
 -- What the printers measure, ask for and leave in the lent buffer.
 --   DigitCount n r             <-> r is how many decimal digits n has, at most 20
---   told_lines places labels    == the lines of the gene nodes that two tables tell
+--   told_lines places labels   == the lines of the gene nodes that two tables tell
 --   LinesSize places r         <-> r is how many bytes they take, whatever the labels, at most 44 for each of 2,047 nodes
 --   CountsSize c r             <-> r is how many bytes the line of the counts takes, at most 105
 --   LinesRoom places labels out <-> the tables agree in length, and the buffer has room for their lines

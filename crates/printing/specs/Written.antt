@@ -1,7 +1,7 @@
 -- Tables written as the program's text.                    (01, "any sound pair fits if written without leading zeros and with single separators")
 --   Written ns text <-> text is the numbers ns in decimal, without leading zeros and with single separators between them; one may
 --                       stand at the end
---   numbers_of w     == the numbers of the program's text: both counts, then the four tables
+--   numbers_of w    == the numbers of the program's text: both counts, then the four tables
 --   Writable w      <-> the four tables have the sizes and widths that a text can tell
 --   canonical w     == the text of w with single spaces, as 01 writes its example
 -- Assumes nothing.

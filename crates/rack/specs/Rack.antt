@@ -1,9 +1,9 @@
 -- What the rack's call of the least history answers and leaves.
 --   rack_rules w places labels counts == the rules of the least history, in 01's order; 7 also if counts has under four entries
---   rack_counts w        == duplications, losses, speciations and climbs of the least history, as the call writes them
---   rack_ruling ..       == what the call answers
+--   rack_counts w       == duplications, losses, speciations and climbs of the least history, as the call writes them
+--   rack_ruling ..      == what the call answers
 --   RackOutcome         == the number answered, with what the three lent tables hold after the call
---   rack_outcome ..      == the outcome: 0 and the least history, "and nothing after" its entries; or the refusal's number, and "lent memory
+--   rack_outcome ..     == the outcome: 0 and the least history, "and nothing after" its entries; or the refusal's number, and "lent memory
 --                          .. unchanged"
 --   number_in, tree_in, place_in == the number of a ruling that each call answers: 0 if it is accepted
 -- Assumes nothing.

@@ -2,12 +2,12 @@
 --   word text i       == the word number i of the text; no byte if there is none
 --   species_count, gene_count text == p and q                            (01, "decimal numbers .. p, q, species parents, species taxa, gene parents, gene taxa")
 --   counted n         == a count that is neither 0 nor over 2,047
---   tree_widths n      == the widths of the numbers of a tree of n nodes, in order       (01, "Parents, 16 bits each", "Taxa, 32 bits each")
+--   tree_widths n     == the widths of the numbers of a tree of n nodes, in order        (01, "Parents, 16 bits each", "Taxa, 32 bits each")
 --   widths p q        == those of all numbers behind the counts
 --   fits bs ws        == as many words as widths, each a number of its width
---   tables_of p q ns   == the four tables that 2p + 2q numbers tell; tables text are those of a text
+--   tables_of p q ns  == the four tables that 2p + 2q numbers tell; tables text are those of a text
 --   count_rules, text_rules == the rules of the counts, and of the whole text, in 01's order
---   text_ruling text   == what the program answers: refused, or accepted with the counts of the least history at weights 1 and 1
+--   text_ruling text  == what the program answers: refused, or accepted with the counts of the least history at weights 1 and 1
 -- Assumes nothing.
 use Rattle.std.specs.Prelude.{ℕ, ◌+◌, Bool, true, false, ◌&&◌, List, [], ◌∷◌, ◌++◌, map, length, get_or, take, drop, replicate, leb}
 use Rattle.trees.specs.Rulings.{Ruling, Rule, whole, ruling}

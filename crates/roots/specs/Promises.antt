@@ -1,5 +1,5 @@
 -- What the functions of this crate promise.
---   parent_rules tree par         == rule 2 of that tree: its two tests
+--   parent_rules tree par        == rule 2 of that tree: its two tests
 --   InOrderMeets par r           <-> r is yes exactly if the table has parents first
 --   JudgeParentsMeets tree par r <-> r is rule 2 of that tree, refused at its lowest node, or at 65,535 for want of a root, else `Sound`
 --   JudgeRootsMeets tree par r   <-> r is the first of rules 2 and 38 of that tree that fails, at its lowest node, else `Sound`

@@ -1,7 +1,7 @@
 -- What is held to be written: the bytes behind the first 65,536 of the memory, 4,096 at the most.
---   Held, held m k  == the memory m, in which k bytes are still to be written
---   put_byte_lem h b     == one byte more; where 4,096 are held they are written, and b is the first held after that
---   put_bytes_lem h bs   == the bytes bs, one after the other
+--   Held, held m k     == the memory m, in which k bytes are still to be written
+--   put_byte_lem h b   == one byte more; where 4,096 are held they are written, and b is the first held after that
+--   put_bytes_lem h bs == the bytes bs, one after the other
 -- Assumes nothing.
 use Rattle.std.specs.Prelude.{ℕ, ◌+◌, List, [], ◌∷◌, set, ltb}
 use Rattle.trees.specs.Lists.{pick}

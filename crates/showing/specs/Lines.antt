@@ -1,8 +1,8 @@
 -- The bytes of a line.
---   numeral n        == the digits of n
---   spaced n         == a space, and the digits of n
+--   numeral n         == the digits of n
+--   spaced n          == a space, and the digits of n
 --   word_bytes b      == `refused`, or `ok`
---   up_to_five_lem k       == k, or 5 if it is more
+--   up_to_five_lem k  == k, or 5 if it is more
 --   spaced_from ns i k == the k numbers of ns from entry i on, each behind a space
 --   rest_bytes ns k   == the first k of the numbers, at most five, each behind a space; and the line's end
 --   line_bytes l      == the whole line

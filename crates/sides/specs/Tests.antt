@@ -1,7 +1,7 @@
 -- The tests of rules 10 and 11 over the tables alone.
---   side_of sp a x           == the child of species node a that x is at or below; none if x is not properly below a
---   nested_by sp gp pl c     == rule 10, by the side of its parent's place on which the place of c lies
---   parted_by sp gp pl lb g  == rule 11, by the sides of g's place on which the places of its two children lie
+--   side_of sp a x          == the child of species node a that x is at or below; none if x is not properly below a
+--   nested_by sp gp pl c    == rule 10, by the side of its parent's place on which the place of c lies
+--   parted_by sp gp pl lb g == rule 11, by the sides of g's place on which the places of its two children lie
 -- proofs/Tests.antt shows that on sound tables each is the rule's own. None of it asks how nodes are numbered. Assumes nothing.
 use Rattle.std.specs.Prelude.{ℕ, Bool, true, ◌&&◌, ◌||◌, not, List, length, get_or, eqb, ltb}
 use Rattle.trees.specs.Lists.{first, pick}

@@ -5,7 +5,7 @@
 --   unseen             == 65,534: no child of the gene node has been looked at yet
 --   merged v s         == what is known of a gene node, v, and the side s of one child more: none as soon as a child has no side or
 --                         two have the same
---   sides_of f ks       == what is known after the children ks, where f gives each child's side
+--   sides_of f ks      == what is known after the children ks, where f gives each child's side
 --   child_side sp gp p c == the side of child c: of its parent's place, on which its own place lies
 --   Seen .. c sides    <-> the table has what is known after the children below c
 --   Visiting, Visited  <-> what looking at child c needs and leaves

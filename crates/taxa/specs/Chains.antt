@@ -1,6 +1,6 @@
 -- Private to the functions of this crate: nodes found by their taxon through chains. A pointer is a node plus 1, or 0 for none. Of
 -- these only `Alone` and `AllKnown` are asked of a caller, and nothing is part of a promise.
---   slot_of_lem t                     == the chain of a taxon
+--   slot_of_lem t                == the chain of a taxon
 --   Last tax s b p               <-> p points to the highest node below b in chain s, if any: all between it and b are in other chains
 --   Linked tax earlier           <-> each node with a taxon has a pointer to the highest one before it in its chain
 --   FoundBy tax t r              <-> r is a node that carries the taxon t; none does if r is nowhere

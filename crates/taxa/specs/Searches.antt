@@ -1,7 +1,7 @@
 -- The tests of rules 5 and 6 as the code makes them: over the tables of taxa alone.
---   taxon_at tax t            == the lowest node that carries the taxon t; the number of nodes if none does
---   fresh_taxon st i          == rule 5, where rule 4 holds: a node with a taxon is a leaf
---   known_taxon st gt x       == rule 6, where rule 4 holds in both trees
+--   taxon_at tax t           == the lowest node that carries the taxon t; the number of nodes if none does
+--   fresh_taxon st i         == rule 5, where rule 4 holds: a node with a taxon is a leaf
+--   known_taxon st gt x      == rule 6, where rule 4 holds in both trees
 -- proofs/Tests.antt shows that each is the rule's own test. Assumes nothing.
 use Rattle.std.specs.Prelude.{ℕ, Bool, not, ◌||◌, List, length, get_or, take, eqb, ltb}
 use Rattle.trees.specs.Lists.{lowest}

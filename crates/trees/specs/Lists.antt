@@ -1,7 +1,7 @@
 -- Lists of numbers, and tests over them. Every other definition is written with these.
 --   pick b x y       == x where b holds, else y
 --   range i k        == the k numbers from i on, ascending
---   keep_if p l       == the members of l that pass p, in order
+--   keep_if p l      == the members of l that pass p, in order
 --   has a l          == does a stand in l?
 --   all p l, any p l == does every member pass p; does one?
 --   first p l d      == the first member of l that passes p, or d if none does

@@ -1,7 +1,7 @@
 -- What a call answers, and the order in which it refuses.
 --   Ruling A            == accepted with a value of A, or refused with number, tree and place
 --                                                   (01, "A refusal gives the number, the tree (0 none, 1 species, 2 gene) and a place")
---   refused_by r         == the refusal that a call hands back, in the paper's terms
+--   refused_by r        == the refusal that a call hands back, in the paper's terms
 --   whole n t v b       == the rule of number n that is one test b; refused at tree t, place v
 --   each n t k ok       == the rule of number n that is a test ok of each of k nodes (or blocks); refused at the lowest that fails
 --   ruling rs a         == refused by the first rule of rs that fails, else accepted with a

@@ -1,7 +1,7 @@
 -- Where a search ends.
 --   Spot           == at a node (or a block), or nowhere
 --   lowest_spot ok n == the lowest number below n that fails the test ok; nowhere if none fails
---   species_spot r  == what a search for a species node hands back, in these terms
+--   species_spot r == what a search for a species node hands back, in these terms
 -- Assumes nothing.
 use Rattle.std.specs.Prelude.{ℕ, Bool, eqb}
 use Rattle.trees.specs.Lists.{lowest, pick}

@@ -1,7 +1,7 @@
 -- A tree as its table of parents.
 --   none              == 65,535: no parent                                          (01, "65,535 (no parent)")
 --   up par s          == the parent of s; none where there is none
---   is_root par s      == has s the entry 65,535?                                    (02, W8: "exactly one 65,535 entry")
+--   is_root par s     == has s the entry 65,535?                                     (02, W8: "exactly one 65,535 entry")
 --   above par k s     == the node k steps up from s
 --   line par s        == s and its ancestors, nearest first; empty if s is no node
 --   Below par a x     <-> x is at or below a
@@ -9,7 +9,7 @@
 --   kids par g        == the children of g, ascending
 --   kid par g 0, 1    == the first child, the second child of g                     (01, "The child with the lower number is the first child")
 --   Leaf, Inner       <-> g has no child, g has two                                  (01, "Every node has two children or none")
---   is_leaf par g      == the test of Leaf
+--   is_leaf par g     == the test of Leaf
 --   depth par c s     == how many proper ancestors of s the set c counts; with every node counted:
 --                        the number of steps from s up to the root                   (01, "Depth is the number of steps up to the root")
 --   Meet par a b m    <-> m is the lowest common ancestor of a and b
