@@ -1,9 +1,10 @@
 -- `write_image` meets its contract: the offer is judged, the buffer measured, the image put. Assumes nothing.
-use mathlib.Core.Path.{◌≡◌, sym, ap, ◌∙◌}
+use Prim.Native.Nat.{◌<◌}
+use native.Mathlib.Omega.{arith}
+use mathlib.Core.Path.{sym, ap, ◌∙◌}
+use lib.ListN.{length}
 use lib.Seq.{length-take-le}
-use Rattle.trees.specs.Rulings.{accepted}
 use Rattle.trees.specs.Tables.{pair}
-use Rattle.histories.specs.Rules.{OfferCounts, offer_ruling}
 use Rattle.offers.specs.Answers.{offered_of}
 use Rattle.writing.proofs.Writes.{write_unoffered, sizes, rooms, write_short, part_room, write_done}
 use Rattle.writing.proofs.write_image.Goals as goal
@@ -13,28 +14,25 @@ returns-in-Refused c = write_unoffered (pair c.args.species_parents.now c.args.s
 
 pub image_size-n-requires : goal.image_size-n-requires
 image_size-n-requires c =
-    let legal : (v : OfferCounts) × (offer_ruling (pair c.args.species_parents.now c.args.species_taxa.now c.args.gene_parents.now c.args.gene_taxa.now) c.args.places.now c.args.labels.now ≡ accepted v) = (_, sym c.judge_offer-offered.ensures ∙ ap offered_of c.in_default.is) in  sizes _ _ _ c.args.image.now _ legal.1
+    sizes _ _ _ c.args.image.now _ (sym c.judge_offer-offered.ensures ∙ ap offered_of c.in_default.is)
 
 pub returns-then-image-n : goal.returns-then-image-n
 returns-then-image-n c =
-    let legal : (v : OfferCounts) × (offer_ruling (pair c.args.species_parents.now c.args.species_taxa.now c.args.gene_parents.now c.args.gene_taxa.now) c.args.places.now c.args.labels.now ≡ accepted v) = (_, sym c.judge_offer-offered.ensures ∙ ap offered_of c.in_default.is) in  write_short _ _ _ c.args.image.now _ legal.1 _ c.image_size-n.ensures c.if-image-n.true
+    let short : length c.args.image.now < c.image_size-n.result = omega arith in
+    write_short _ _ _ c.args.image.now _ (sym c.judge_offer-offered.ensures ∙ ap offered_of c.in_default.is) _ c.image_size-n.ensures short
 
 pub slice_bounds-put_family-end : goal.slice_bounds-put_family-end
 slice_bounds-put_family-end c =
-    let legal : (v : OfferCounts) × (offer_ruling (pair c.args.species_parents.now c.args.species_taxa.now c.args.gene_parents.now c.args.gene_taxa.now) c.args.places.now c.args.labels.now ≡ accepted v) = (_, sym c.judge_offer-offered.ensures ∙ ap offered_of c.in_default.is) in  sym (length-take-le _ _ (rooms _ _ _ c.args.image.now _ legal.1).0)
+    sym (length-take-le _ _ (rooms _ _ _ c.args.image.now _ (sym c.judge_offer-offered.ensures ∙ ap offered_of c.in_default.is)).0)
 
 pub slice_bounds-put_family-end-2 : goal.slice_bounds-put_family-end-2
 slice_bounds-put_family-end-2 c =
-    let legal : (v : OfferCounts) × (offer_ruling (pair c.args.species_parents.now c.args.species_taxa.now c.args.gene_parents.now c.args.gene_taxa.now) c.args.places.now c.args.labels.now ≡ accepted v) = (_, sym c.judge_offer-offered.ensures ∙ ap offered_of c.in_default.is) in  sym (length-take-le _ _ (rooms _ _ _ c.args.image.now _ legal.1).1)
-
-pub slice_bounds-put_family-end-4 : goal.slice_bounds-put_family-end-4
-slice_bounds-put_family-end-4 c = sym (length-take-le _ _ c.if-image-n.false)
+    sym (length-take-le _ _ (rooms _ _ _ c.args.image.now _ (sym c.judge_offer-offered.ensures ∙ ap offered_of c.in_default.is)).1)
 
 pub put_family-requires : goal.put_family-requires
 put_family-requires c =
-    let legal : (v : OfferCounts) × (offer_ruling (pair c.args.species_parents.now c.args.species_taxa.now c.args.gene_parents.now c.args.gene_taxa.now) c.args.places.now c.args.labels.now ≡ accepted v) = (_, sym c.judge_offer-offered.ensures ∙ ap offered_of c.in_default.is) in  part_room _ _ _ c.args.image.now _ legal.1 _ c.image_size-n.ensures c.if-image-n.false
+    part_room _ _ _ c.args.image.now _ (sym c.judge_offer-offered.ensures ∙ ap offered_of c.in_default.is) _ c.image_size-n.ensures c.if-image-n.false
 
 pub returns : goal.returns
 returns c =
-    let legal : (v : OfferCounts) × (offer_ruling (pair c.args.species_parents.now c.args.species_taxa.now c.args.gene_parents.now c.args.gene_taxa.now) c.args.places.now c.args.labels.now ≡ accepted v) = (_, sym c.judge_offer-offered.ensures ∙ ap offered_of c.in_default.is) in
-    write_done _ _ _ c.args.image.now _ legal.1 _ c.image_size-n.ensures c.if-image-n.false _ c.put_family.ensures
+    write_done _ _ _ c.args.image.now _ (sym c.judge_offer-offered.ensures ∙ ap offered_of c.in_default.is) _ c.image_size-n.ensures c.if-image-n.false _ c.put_family.ensures

@@ -11,20 +11,21 @@ put_words-requires c = image_within (family c.args.species_parents.now c.args.sp
 
 pub put_tables-requires : goal.put_tables-requires
 put_tables-requires c =
-    let kept-1 : length c.put_words.new.image ≡ length c.args.image.now = length_put _ _ _ _ c.put_words.ensures in
-    record { even = c.requires.even; within = image_within (family c.args.species_parents.now c.args.species_taxa.now c.args.gene_parents.now c.args.gene_taxa.now c.args.places.now c.args.labels.now) _ c.requires _ 3 _ kept-1 (omega arith) }
+    let kept_1 : length c.put_words.new.image ≡ length c.args.image.now = length_put _ _ _ _ c.put_words.ensures in
+    record { even = c.requires.even; within = image_within (family c.args.species_parents.now c.args.species_taxa.now c.args.gene_parents.now c.args.gene_taxa.now c.args.places.now c.args.labels.now) _ c.requires _ 3 _ kept_1 (omega arith) }
 
 pub put_zeros-requires : goal.put_zeros-requires
 put_zeros-requires c =
-    let kept-1 : length c.put_words.new.image ≡ length c.args.image.now = length_put _ _ _ _ c.put_words.ensures in
-    let kept-2 : length c.put_tables.new.image ≡ length c.args.image.now = length_put _ _ _ _ c.put_tables.ensures ∙ kept-1 in
-    image_within (family c.args.species_parents.now c.args.species_taxa.now c.args.gene_parents.now c.args.gene_taxa.now c.args.places.now c.args.labels.now) _ c.requires _ _ 0 kept-2 (omega arith)
+    let kept_1 : length c.put_words.new.image ≡ length c.args.image.now = length_put _ _ _ _ c.put_words.ensures in
+    let kept_2 : length c.put_tables.new.image ≡ length c.args.image.now = length_put _ _ _ _ c.put_tables.ensures ∙ kept_1 in
+    image_within (family c.args.species_parents.now c.args.species_taxa.now c.args.gene_parents.now c.args.gene_taxa.now c.args.places.now c.args.labels.now) _ c.requires _ _ 0 kept_2 (omega arith)
 
 pub seal_all-requires : goal.seal_all-requires
 seal_all-requires c =
-    let kept-1 : length c.put_words.new.image ≡ length c.args.image.now = length_put _ _ _ _ c.put_words.ensures in
-    let kept-2 : length c.put_tables.new.image ≡ length c.args.image.now = length_put _ _ _ _ c.put_tables.ensures ∙ kept-1 in
-    let kept-3 : length c.put_zeros.new.image ≡ length c.args.image.now = length_put _ _ _ _ c.put_zeros.ensures ∙ kept-2 in  image_whole (family c.args.species_parents.now c.args.species_taxa.now c.args.gene_parents.now c.args.gene_taxa.now c.args.places.now c.args.labels.now) _ c.requires _ kept-3
+    let kept_1 : length c.put_words.new.image ≡ length c.args.image.now = length_put _ _ _ _ c.put_words.ensures in
+    let kept_2 : length c.put_tables.new.image ≡ length c.args.image.now = length_put _ _ _ _ c.put_tables.ensures ∙ kept_1 in
+    let kept_3 : length c.put_zeros.new.image ≡ length c.args.image.now = length_put _ _ _ _ c.put_zeros.ensures ∙ kept_2 in
+    image_whole (family c.args.species_parents.now c.args.species_taxa.now c.args.gene_parents.now c.args.gene_taxa.now c.args.places.now c.args.labels.now) _ c.requires _ kept_3
 
 pub returns : goal.returns
 returns c =
