@@ -1,8 +1,8 @@
 -- Where every gene node passes the test, each leaf is at a place that carries its taxon. Assumes nothing.
-use Prim.Native.Nat.{ℕ, ◌<◌}
+use Prim.Native.Nat.{ℕ}
 use mathlib.Core.Logic.{inl, inr}
 use mathlib.Core.List.{List}
-use lib.ListN.{length, get_or}
+use lib.ListN.{get_or}
 use lib.Dec.{eqb, eqb→eq}
 use Rattle.trees.specs.Tables.{taxon}
 use Rattle.trees.proofs.Bools.{or_cases}

@@ -46,6 +46,7 @@ pub fn two_at(table: &[u16], node: usize) -> u16
 }
 
 // One more at a node that has at most one yet; at another nothing is done.
+#[tactic(auto, unfolding(crate::specs::Bits::two_at_lem, trees::specs::Lists::pick))]
 pub fn add_one(table: &mut [u16], node: usize) -> bool
     requires { (length table.old ≡ 512) × (node < 2048) }
     ensures { AddOneMeets table.old node result table.new }

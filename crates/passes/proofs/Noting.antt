@@ -1,6 +1,6 @@
 -- Passes without branches: nothing is noted at the end exactly if every node passed is right. Assumes nothing.
 --   Noted P i w <-> nothing is noted in w exactly if P holds of each number below i
-use Prim.Native.Nat.{ℕ, ◌+◌, ◌≤◌, ◌<◌}
+use Prim.Native.Nat.{ℕ, ◌+◌, ◌<◌}
 use native.Mathlib.Omega.{arith}
 use mathlib.Core.Path.{◌≡◌, refl}
 use mathlib.Core.Logic.{◌↔◌}

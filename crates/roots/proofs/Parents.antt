@@ -1,19 +1,18 @@
 -- Rule 2 node by node, and parents first node by node. Assumes nothing.
 use Prim.Native.Nat.{ℕ, ◌+◌, ◌≤◌, ◌<◌}
 use native.Mathlib.Omega.{arith}
-use native.Mathlib.Decide.{ℕ_discrete}
-use mathlib.Core.Path.{◌≡◌, refl, sym, ap, ◌∙◌}
+use mathlib.Core.Path.{◌≡◌, refl, sym, ◌∙◌}
 use mathlib.Core.Logic.{◌≢◌, ◌↔◌}
 use mathlib.Core.Bool.{Bool, true, false, not, ◌&&◌, ◌||◌}
-use mathlib.Core.List.{List, [], ◌∷◌, ◌++◌}
+use mathlib.Core.List.{List, [], ◌∷◌}
 use lib.ListN.{length, get_or}
 use lib.Dec.{T, eqb, ltb, ltb→lt, lt→ltb}
 use Rattle.trees.specs.Lists.{range, any, lowest}
 use Rattle.trees.specs.Trees.{none, up, is_root, nodes}
 use Rattle.trees.specs.First.{ParentsFirst}
-use Rattle.trees.specs.Rulings.{accepted, refused, whole, each, ruling, verdict, fine, number_of, tree_of, Passes, Every, done, and}
+use Rattle.trees.specs.Rulings.{accepted, refused, whole, each, ruling, verdict, fine, number_of, tree_of}
 use Rattle.trees.specs.Rules.{parented, topped, reaching, root_rules}
-use Rattle.trees.proofs.Bools.{test, true_T}
+use Rattle.trees.proofs.Bools.{true_T}
 use Rattle.trees.proofs.Lists.{any_more}
 use Rattle.trees.proofs.Lines.{up_at}
 use Rattle.trees.proofs.Rulings.{ruling_pass, ruling_fail, ruling_all, ruling_stays, ruling_accepted, each_fails, each_passes}

@@ -1,11 +1,11 @@
 -- Ways up: what is left of a line after some steps, and which nodes reach the root. Assumes nothing.
-use Prim.Native.Nat.{ℕ, suc, ◌+◌, ◌-◌, ◌≤◌, ◌<◌}
+use Prim.Native.Nat.{ℕ, suc, ◌≤◌, ◌<◌}
 use native.Mathlib.Omega.{arith}
 use native.Mathlib.Decide.{ℕ_discrete, dec_lt}
-use mathlib.Core.Path.{◌≡◌, refl, sym, ap, ◌∙◌}
-use mathlib.Core.Logic.{◌⊎◌, inl, inr, ◌≢◌}
-use mathlib.Core.Bool.{Bool, true, false}
-use mathlib.Core.List.{List, [], ◌∷◌}
+use mathlib.Core.Path.{◌≡◌, sym, ap, ◌∙◌}
+use mathlib.Core.Logic.{inl, inr, ◌≢◌}
+use mathlib.Core.Bool.{true, false}
+use mathlib.Core.List.{List}
 use lib.ListN.{length, get_or}
 use lib.Dec.{T}
 use borrow.Author.Tests.{ne_eqb}
@@ -15,7 +15,7 @@ use Rattle.trees.specs.Sound.{SoundTree}
 use Rattle.trees.specs.Rulings.{accepted, verdict, fine}
 use Rattle.trees.specs.Rules.{parented, reaching}
 use Rattle.trees.proofs.Bools.{T_true}
-use Rattle.trees.proofs.Lines.{up_at, trans, proper, climb_in, low_node, top_node}
+use Rattle.trees.proofs.Lines.{up_at, trans, proper, climb_in}
 use Rattle.trees.proofs.Reach.{reaching_is}
 use Rattle.trees.proofs.Rulings.{ruling_accepted, every_head}
 use Rattle.trees.proofs.Soundness.{parented_is, is_root_top, root_is}

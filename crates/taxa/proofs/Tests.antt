@@ -9,14 +9,16 @@ use mathlib.Core.List.{List}
 use lib.ListN.{length, take}
 use lib.Seq.{length-take-le, get_or-take}
 use lib.Dec.{T, eqb, ltb, eqb→eq, eqb_refl, ltb→lt, lt→ltb}
-use borrow.Author.Tests.{eq-eqb, ne_eqb, not-false}
+use borrow.Author.Tests.{eq-eqb, not-false}
 use Rattle.trees.specs.Lists.{lowest}
+use Rattle.trees.specs.Spots.{spot, lowest_spot}
 use Rattle.trees.specs.Trees.{Leaf}
 use Rattle.trees.specs.Tables.{taxon, Pair}
 use Rattle.trees.specs.Sound.{SoundTree}
 use Rattle.trees.specs.Rules.{fresh, known}
 use Rattle.trees.proofs.Bools.{or_left, or_right, or_cases, true_T, T-same}
-use Rattle.trees.proofs.Lists.{lowest_cases}
+use Rattle.trees.proofs.Lists.{lowest_is, lowest_cases}
+use Rattle.trees.proofs.Spots.{spot_found}
 use Rattle.trees.proofs.Soundness.{fresh_is, is_fresh, known_is, is_known}
 use Rattle.taxa.specs.Searches.{taxon_at, fresh_taxon, known_taxon}
 
@@ -30,6 +32,13 @@ taxon_cases tax t =
       | inl r ↦ inl (r.0, eqb→eq (taxon tax (lowest ok (length tax))) t (true_T (not-false (eqb (taxon tax (lowest ok (length tax))) t) r.1)))
       | inr r ↦ inr (r.0, λ s h e. absurd (rw (eq-eqb (taxon tax s) t e) at (r.1 s h)))
     ]
+
+-- the first node that carries the taxon is the spot
+pub spot_here : (tax : List ℕ) (t i : ℕ) → i < length tax → taxon tax i ≡ t → ((k : ℕ) → k < i → T (not (eqb (taxon tax k) t)))
+    → spot i ≡ lowest_spot (λ s. not (eqb (taxon tax s) t)) (length tax)
+spot_here tax t i h e f =
+    let ok : ℕ → Bool = λ s. not (eqb (taxon tax s) t) in
+    sym (spot_found ok (length tax) i (sym (lowest_is ok (length tax) i h (rw (eq-eqb _ _ e)) f)) h)
 
 -- a node with a taxon is a leaf
 pub tax_leaf : {par tax : List ℕ} → SoundTree par tax → (i : ℕ) → i < length par → taxon tax i ≢ 0 → Leaf par i

@@ -9,8 +9,8 @@
 --   Alone tax                    <-> no node's taxon stands at a lower node
 --   AllKnown st gt               <-> rule 6 at every gene node
 -- Assumes nothing.
-use Rattle.std.specs.Prelude.{ℕ, ◌+◌, ◌-◌, ◌*◌, ◌/◌, ◌%◌, ◌≤◌, ◌<◌, ◌≡◌, ◌≢◌, Bool, List, [], ◌∷◌, length, get_or, T}
-use Rattle.trees.specs.Rulings.{Ruling, accepted, Fine, fine}
+use Rattle.std.specs.Prelude.{ℕ, ◌+◌, ◌-◌, ◌*◌, ◌/◌, ◌%◌, ◌≤◌, ◌<◌, ◌≡◌, ◌≢◌, Bool, List, length, get_or, T}
+use Rattle.trees.specs.Rulings.{accepted, fine}
 use Rattle.trees.specs.Answers.{judged_of}
 use Rattle.trees.specs.declared.Judged.{Judged}
 use Rattle.trees.specs.declared.SpeciesSpot.{SpeciesSpot}

@@ -3,7 +3,7 @@
 --   fresh_taxon st i         == rule 5, where rule 4 holds: a node with a taxon is a leaf
 --   known_taxon st gt x      == rule 6, where rule 4 holds in both trees
 -- proofs/Tests.antt shows that each is the rule's own test. Assumes nothing.
-use Rattle.std.specs.Prelude.{ℕ, Bool, not, ◌||◌, List, length, get_or, take, eqb, ltb}
+use Rattle.std.specs.Prelude.{ℕ, Bool, not, ◌||◌, List, length, take, eqb, ltb}
 use Rattle.trees.specs.Lists.{lowest}
 use Rattle.trees.specs.Tables.{taxon}
 

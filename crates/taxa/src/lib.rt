@@ -111,6 +111,7 @@ pub fn judge_repeats(taxa: &[u32]) -> Judged
 // ---- rule 6
 
 // Rule 6 at one gene node, where rule 4 has passed in both trees and the species nodes are in their chains.
+#[tactic(auto, unfolding(crate::specs::Searches::known_taxon))]
 fn known_at(
     species_taxa: &[u32],
     heads: &[u16],
@@ -167,6 +168,7 @@ pub fn judge_known(species_taxa: &[u32], gene_taxa: &[u32]) -> Judged
 // ---- where a taxon stands
 
 // The lowest species node that carries the taxon.
+#[tactic(auto, using(crate::proofs::Tests::spot_here))]
 pub fn species_of(species_taxa: &[u32], taxon: u32) -> SpeciesSpot
     ensures { SpeciesOfMeets species_taxa.now taxon result }
 {

@@ -21,7 +21,7 @@ depth_of-high-requires c = omega (arith, c.place_of-2.ensures, c.requires.high_i
 pub overflow_sub-result : goal.overflow_sub-result
 overflow_sub-result c =
     let low-is : c.depth_of-low.result ≡ get_or c.args.depths.now (get_or c.args.places.now c.args.node.0 0) 0 = c.depth_of-low.ensures ∙ ap (λ s. get_or c.args.depths.now s 0) c.place_of.ensures in
-    let high_is : c.depth_of-high.result ≡ get_or c.args.depths.now (get_or c.args.places.now (get_or c.args.gene_parents.now c.args.node.0 0) 0) 0 = c.depth_of-high.ensures ∙ ap (λ s. get_or c.args.depths.now s 0) c.place_of-2.ensures in  omega (arith, low-is, high_is, c.requires.falls (search rules))
+    let high_is : c.depth_of-high.result ≡ get_or c.args.depths.now (get_or c.args.places.now (get_or c.args.gene_parents.now c.args.node.0 0) 0) 0 = c.depth_of-high.ensures ∙ ap (λ s. get_or c.args.depths.now s 0) c.place_of-2.ensures in omega (arith, low-is, high_is, c.requires.falls (search rules))
 
 pub returns : goal.returns
 unfolding steps_of pick

@@ -1,5 +1,5 @@
 -- `homes::all_homed`: the leaves passed are at their species. Assumes nothing.
-use Prim.Native.Nat.{◌-◌, ◌≤◌}
+use Prim.Native.Nat.{◌≤◌}
 use native.Mathlib.Omega.{arith}
 use mathlib.Core.Path.{refl, sym, ◌∙◌}
 use borrow.Author.Count.{below_none, below_more}

@@ -1,5 +1,4 @@
 -- `meets::go_up`: the node reached lies the counted steps above the first. Assumes nothing.
-use Prim.Native.Nat.{◌-◌}
 use native.Mathlib.Omega.{arith}
 use Rattle.meets.proofs.Joins.{risen_start, risen_turn, gone_root, gone_all}
 use borrow.Author.Rules.{rules}

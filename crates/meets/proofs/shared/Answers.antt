@@ -1,5 +1,4 @@
 -- `meets::shared`: the steps from both lead to the same node. Assumes nothing.
-use Prim.Native.Nat.{◌-◌}
 use native.Mathlib.Omega.{arith}
 use Rattle.meets.proofs.Joins.{gone_deep}
 use borrow.Author.Rules.{rules}

@@ -1,5 +1,4 @@
 -- `meets::steps_to`: the node reached lies the counted steps above the first. Assumes nothing.
-use Prim.Native.Nat.{◌-◌}
 use native.Mathlib.Omega.{arith}
 use Rattle.meets.proofs.Joins.{risen_start, risen_turn}
 use borrow.Author.Rules.{rules}

@@ -1,5 +1,5 @@
 -- `passes::all_below`: nothing is noted exactly if the entries passed are below the limit. Assumes nothing.
-use Prim.Native.Nat.{◌-◌, ◌≤◌, ◌<◌}
+use Prim.Native.Nat.{◌≤◌, ◌<◌}
 use lib.ListN.{get_or}
 use native.Mathlib.Omega.{arith}
 use lib.Dec.{ltb, eqb→eq, ltb→lt, lt→ltb}

@@ -1,5 +1,4 @@
 -- `roots::in_order`: nothing is noted exactly if the nodes passed come after their parents. Assumes nothing.
-use Prim.Native.Nat.{◌-◌}
 use mathlib.Core.Path.{refl}
 use lib.ListN.{get_or}
 use lib.Dec.{ltb, eqb→eq}

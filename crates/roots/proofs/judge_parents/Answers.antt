@@ -1,5 +1,4 @@
 -- `roots::judge_parents`: the nodes passed obey rule 2, and it is known whether one is a root. Assumes nothing.
-use Prim.Native.Nat.{◌-◌}
 use mathlib.Core.Path.{refl, sym, ap, ◌∙◌}
 use borrow.Author.Count.{below_none, below_more}
 use Rattle.trees.specs.Lists.{range, any}

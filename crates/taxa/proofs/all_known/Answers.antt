@@ -1,5 +1,4 @@
 -- `taxa::all_known`: the leaves passed have species taxa. Assumes nothing.
-use Prim.Native.Nat.{◌-◌}
 use mathlib.Core.Path.{sym, ap, ◌∙◌}
 use borrow.Author.Count.{below_none, below_more}
 use Rattle.trees.proofs.Bools.{true_T}

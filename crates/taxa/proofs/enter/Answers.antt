@@ -11,11 +11,11 @@ returns-then-taxon-eq0 c = let s = c in entered_inner s.requires.0 s.requires.1 
 
 pub offset_bounds-heads-s : goal.offset_bounds-heads-s
 offset_bounds-heads-s c =
-    let below : c.slot_of-s.result < 2048 = rw c.slot_of-s.ensures (slot_below _) in  omega (arith, below)
+    let below : c.slot_of-s.result < 2048 = rw c.slot_of-s.ensures (slot_below _) in omega (arith, below)
 
 pub bounds-heads-s : goal.bounds-heads-s
 bounds-heads-s c =
-    let below : c.slot_of-s.result < 2048 = rw c.slot_of-s.ensures (slot_below _) in  omega (arith, below, c.requires.1.slots)
+    let below : c.slot_of-s.result < 2048 = rw c.slot_of-s.ensures (slot_below _) in omega (arith, below, c.requires.1.slots)
 
 pub overflow_cast-from : goal.overflow_cast-from
 overflow_cast-from c = omega (arith, c.type_inv.heads c.slot_of-s.result)
@@ -31,11 +31,11 @@ returns-in_default c = let k = c in let s = k in entered_twice s.requires.0 s.re
 
 pub offset_bounds-heads-s-2 : goal.offset_bounds-heads-s-2
 offset_bounds-heads-s-2 c =
-    let below : c.slot_of-s.result < 2048 = rw c.slot_of-s.ensures (slot_below _) in  omega (arith, below)
+    let below : c.slot_of-s.result < 2048 = rw c.slot_of-s.ensures (slot_below _) in omega (arith, below)
 
 pub bounds-heads-s-2 : goal.bounds-heads-s-2
 bounds-heads-s-2 c =
-    let below : c.slot_of-s.result < 2048 = rw c.slot_of-s.ensures (slot_below _) in  let k = c in omega (arith, below, k.requires.1.slots)
+    let below : c.slot_of-s.result < 2048 = rw c.slot_of-s.ensures (slot_below _) in let k = c in omega (arith, below, k.requires.1.slots)
 
 pub returns : goal.returns
 returns c = let k = c in let s = k in entered_new s.requires.0 s.requires.1 k.if-taxon-eq0.false _ c.find-found.ensures _ k.slot_of-s.ensures c.in-Nowhere.is

@@ -1,5 +1,4 @@
 -- `taxa::enter_all`: the nodes passed have taxa of their own and are in their chains. Assumes nothing.
-use Prim.Native.Nat.{◌-◌}
 use native.Mathlib.Omega.{arith}
 use mathlib.Core.Path.{◌≡◌, refl, sym, ap, ◌∙◌}
 use lib.ListN.{length}

@@ -27,11 +27,11 @@ bounds-earlier-k c = omega (arith, c.loop-at.invariant.low, c.requires.1.room)
 
 pub overflow_cast-at : goal.overflow_cast-at
 overflow_cast-at c =
-    let lower : get_or c.args.earlier.now (c.loop-at.at - 1) 0 ≤ c.loop-at.at - 1 = let S = c.loop-at.invariant in let low : c.loop-at.at ≤ length c.args.taxa.now = S.low in back_lower c.requires.1 (c.loop-at.at - 1) (omega arith) (S.own (omega arith)).0 in  omega (arith, lower, c.loop-at.invariant.low, c.requires.1.few)
+    let lower : get_or c.args.earlier.now (c.loop-at.at - 1) 0 ≤ c.loop-at.at - 1 = let S = c.loop-at.invariant in let low : c.loop-at.at ≤ length c.args.taxa.now = S.low in back_lower c.requires.1 (c.loop-at.at - 1) (omega arith) (S.own (omega arith)).0 in omega (arith, lower, c.loop-at.invariant.low, c.requires.1.few)
 
 pub loop-at-smaller : goal.loop-at-smaller
 loop-at-smaller c =
-    let lower : get_or c.args.earlier.now (c.loop-at.at - 1) 0 ≤ c.loop-at.at - 1 = let S = c.loop-at.invariant in let low : c.loop-at.at ≤ length c.args.taxa.now = S.low in back_lower c.requires.1 (c.loop-at.at - 1) (omega arith) (S.own (omega arith)).0 in  omega (arith, lower)
+    let lower : get_or c.args.earlier.now (c.loop-at.at - 1) 0 ≤ c.loop-at.at - 1 = let S = c.loop-at.invariant in let low : c.loop-at.at ≤ length c.args.taxa.now = S.low in back_lower c.requires.1 (c.loop-at.at - 1) (omega arith) (S.own (omega arith)).0 in omega (arith, lower)
 
 pub loop-at-preserved : goal.loop-at-preserved
 loop-at-preserved c = let s = c in seeking_back _ _ s.requires.0 _ _ s.requires.1 (search rules) c.if-taxa-k.false c.loop-at.invariant

@@ -1,5 +1,4 @@
 -- `taxa::find`: nothing from the pointer on carries the taxon. Assumes nothing.
-use Prim.Native.Nat.{◌-◌}
 use Rattle.taxa.proofs.Chains.{Seeking}
 use Rattle.taxa.proofs.find.Given as goal
 

@@ -1,5 +1,4 @@
 -- `counts::depths::fill_any`: the depths of the nodes passed are known. Assumes nothing.
-use Prim.Native.Nat.{◌-◌}
 use mathlib.Core.Path.{sym, ◌∙◌}
 use Rattle.counts.proofs.Deepening.{noting_start, knowing_start, knowing_turn, knowing_end}
 use borrow.Author.Rules.{rules}

@@ -1,5 +1,5 @@
 -- `counts::depths::fill_ordered`: the depths of the nodes passed stand. Assumes nothing.
-use Prim.Native.Nat.{◌-◌, ◌≤◌, ◌<◌}
+use Prim.Native.Nat.{◌≤◌, ◌<◌}
 use native.Mathlib.Omega.{arith}
 use mathlib.Core.Path.{sym, ◌∙◌}
 use lib.ListN.{get_or}
@@ -15,15 +15,15 @@ overflow_cast-u c = omega (arith, c.type_inv.parents c.loop-i.i)
 
 pub offset_bounds-depths-u : goal.offset_bounds-depths-u
 offset_bounds-depths-u c =
-    let inside : get_or c.args.parents.now c.loop-i.i 0 < c.loop-i.i = let s = c in first_parent s.requires.0.1 s.requires.2 _ (search rules) (search rules) in  omega (arith, inside, c.requires.0.1.few)
+    let inside : get_or c.args.parents.now c.loop-i.i 0 < c.loop-i.i = let s = c in first_parent s.requires.0.1 s.requires.2 _ (search rules) (search rules) in omega (arith, inside, c.requires.0.1.few)
 
 pub bounds-depths-u : goal.bounds-depths-u
 bounds-depths-u c =
-    let inside : get_or c.args.parents.now c.loop-i.i 0 < c.loop-i.i = let s = c in first_parent s.requires.0.1 s.requires.2 _ (search rules) (search rules) in  omega (arith, inside, c.loop-i.invariant.3.size, c.requires.0.1.few)
+    let inside : get_or c.args.parents.now c.loop-i.i 0 < c.loop-i.i = let s = c in first_parent s.requires.0.1 s.requires.2 _ (search rules) (search rules) in omega (arith, inside, c.loop-i.invariant.3.size, c.requires.0.1.few)
 
 pub overflow_add-depths : goal.overflow_add-depths
 overflow_add-depths c =
-    let small : get_or c.loop-i.depths (get_or c.args.parents.now c.loop-i.i 0) 0 ≤ 1023 = let s = c in deep_small s.requires.0.1 s.requires.2 _ _ (search rules) (search rules) c.loop-i.invariant.3 in  omega (arith, small)
+    let small : get_or c.loop-i.depths (get_or c.args.parents.now c.loop-i.i 0) 0 ≤ 1023 = let s = c in deep_small s.requires.0.1 s.requires.2 _ _ (search rules) (search rules) c.loop-i.invariant.3 in omega (arith, small)
 
 pub bounds-depths-i : goal.bounds-depths-i
 bounds-depths-i c = omega (arith, c.loop-i.invariant.3.size, c.requires.0.1.few)
