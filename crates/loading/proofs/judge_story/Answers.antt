@@ -18,9 +18,10 @@ returns-in-Refused c = sym (story_trees (pair c.args.species_parents.now c.args.
 
 pub judge_descent-requires : goal.judge_descent-requires
 judge_descent-requires c =
-    let trees-fine : verdict (family_rules (pair c.args.species_parents.now c.args.species_taxa.now c.args.gene_parents.now c.args.gene_taxa.now)) ≡ accepted fine = sym c.judge_family-judged.ensures ∙ ap judged_of c.in_default.is in
-    record { sound = story_sound _ _ _ c.requires trees-fine; places_room = omega (arith, c.requires.even); labels_room = omega (arith, c.requires.even) }
+    let trees_fine : verdict (family_rules (pair c.args.species_parents.now c.args.species_taxa.now c.args.gene_parents.now c.args.gene_taxa.now)) ≡ accepted fine = sym c.judge_family-judged.ensures ∙ ap judged_of c.in_default.is in
+    record { sound = story_sound _ _ _ c.requires trees_fine; places_room = omega (arith, c.requires.even); labels_room = omega (arith, c.requires.even) }
 
 pub returns : goal.returns
 returns c =
-    let trees-fine : verdict (family_rules (pair c.args.species_parents.now c.args.species_taxa.now c.args.gene_parents.now c.args.gene_taxa.now)) ≡ accepted fine = sym c.judge_family-judged.ensures ∙ ap judged_of c.in_default.is in c.judge_descent.ensures ∙ sym (story_descent (pair c.args.species_parents.now c.args.species_taxa.now c.args.gene_parents.now c.args.gene_taxa.now) _ _ trees-fine)
+    let trees_fine : verdict (family_rules (pair c.args.species_parents.now c.args.species_taxa.now c.args.gene_parents.now c.args.gene_taxa.now)) ≡ accepted fine = sym c.judge_family-judged.ensures ∙ ap judged_of c.in_default.is in
+    c.judge_descent.ensures ∙ sym (story_descent (pair c.args.species_parents.now c.args.species_taxa.now c.args.gene_parents.now c.args.gene_taxa.now) _ _ trees_fine)
