@@ -2,12 +2,11 @@
 use Prim.Native.Nat.{ℕ, ◌+◌, ◌≤◌, ◌<◌}
 use native.Mathlib.Omega.{arith}
 use native.Mathlib.Decide.{ℕ_discrete}
-use mathlib.Core.Path.{◌≡◌, refl, sym, ap, ◌∙◌}
+use mathlib.Core.Path.{◌≡◌, sym, ◌∙◌}
 use mathlib.Core.List.{List, ◌++◌}
 use lib.ListN.{length, get_or, set, take, drop, replicate, length-set, length-replicate, get_or-replicate, length-append, length-drop}
 use lib.Seq.{get_or-set_same, get_or-set_other, length-take-le, take-append_seam}
-use Rattle.trees.specs.Trees.{up, Below, kid}
-use Rattle.trees.specs.First.{ParentsFirst}
+use Rattle.trees.specs.Trees.{up, kid}
 use Rattle.trees.specs.Rules.{reaching}
 use Rattle.trees.specs.Sound.{SoundTree}
 use Rattle.trees.specs.Renumber.{Renumbered}
@@ -20,7 +19,7 @@ use Rattle.trees.proofs.Soundness.{is_root_top}
 use Rattle.histories.specs.Legal.{Apart}
 use Rattle.histories.proofs.Renumber.{moved_apart}
 use Rattle.roots.proofs.Ways.{sound_entries}
-use Rattle.orders.specs.Promises.{Ordered, OrderMeets}
+use Rattle.orders.specs.Promises.{OrderMeets}
 use Rattle.orders.proofs.Orders.{fresh_orderable}
 use Rattle.sides.specs.Promises.{Nestable}
 use Rattle.nesting.specs.Runs.{Unshared, Laid}

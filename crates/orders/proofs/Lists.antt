@@ -2,19 +2,17 @@
 use Prim.Native.Nat.{ℕ, ◌+◌, ◌≤◌, ◌<◌}
 use native.Mathlib.Omega.{arith}
 use native.Mathlib.Decide.{ℕ_discrete, dec_lt}
-use mathlib.Core.Path.{◌≡◌, refl, sym, ap, ◌∙◌}
+use mathlib.Core.Path.{◌≡◌, sym, ap, ◌∙◌}
 use mathlib.Core.Logic.{◌⊎◌, inl, inr, ◌≢◌}
 use mathlib.Core.Bool.{Bool, true, false, not}
 use mathlib.Core.List.{List}
 use lib.ListN.{length, get_or, set, length-set}
 use lib.Seq.{get_or-set_same, get_or-set_other}
-use lib.Dec.{T, eqb}
+use lib.Dec.{eqb}
 use borrow.Author.Tests.{eq-eqb, ne_eqb, lt-ltb, le-ltb}
-use Rattle.trees.specs.Lists.{has, range, total, one, pick}
-use Rattle.trees.specs.Trees.{none, up, nodes, Below, here, step}
+use Rattle.trees.specs.Lists.{range, total, one, pick}
+use Rattle.trees.specs.Trees.{none, up, nodes, here, step}
 use Rattle.trees.proofs.Lists.{only, total_cong, total_add, total_at, total_le, total_ones}
-use Rattle.trees.proofs.Kids.{node_has}
-use Rattle.roots.specs.Ways.{Reaching, Entries}
 use Rattle.roots.proofs.Ways.{reaching_below}
 use Rattle.orders.specs.Listing.{Has, spot_over_lem, has_one, Listing}
 

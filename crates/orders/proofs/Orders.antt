@@ -1,16 +1,13 @@
 -- All nodes are listed: the positions are numbers under which parents come first. Assumes nothing.
-use Prim.Native.Nat.{ℕ, ◌+◌, ◌≤◌, ◌<◌}
+use Prim.Native.Nat.{ℕ, ◌≤◌, ◌<◌}
 use native.Mathlib.Omega.{arith}
 use native.Mathlib.Decide.{dec_lt}
-use mathlib.Core.Path.{◌≡◌, refl, sym, ap, ◌∙◌}
-use mathlib.Core.Logic.{◌≢◌}
-use mathlib.Core.Bool.{not}
+use mathlib.Core.Path.{◌≡◌, sym, ap, ◌∙◌}
 use mathlib.Core.List.{List}
 use lib.ListN.{length, get_or, take, replicate, length-replicate, get_or-replicate}
 use lib.Seq.{length-take-le, get_or-take}
-use lib.Dec.{eqb}
 use borrow.Author.Tests.{ne_eqb}
-use Rattle.trees.specs.Lists.{range, total, one}
+use Rattle.trees.specs.Lists.{total, one}
 use Rattle.trees.specs.Trees.{none, up, nodes}
 use Rattle.trees.specs.Renumber.{Renumbered}
 use Rattle.trees.proofs.Lists.{total_cong, total_zero, total_ones}

@@ -1,12 +1,12 @@
 -- The marks: what a blank table and one mark more give. Assumes nothing.
-use Prim.Native.Nat.{ℕ, ◌≤◌, ◌<◌}
+use Prim.Native.Nat.{ℕ}
 use native.Mathlib.Omega.{arith}
 use native.Mathlib.Decide.{ℕ_discrete}
 use mathlib.Core.Path.{◌≡◌, ◌∙◌}
 use mathlib.Core.List.{List}
 use lib.ListN.{length}
 use Rattle.roots.specs.Ways.{Reaching, Entries}
-use Rattle.marks.specs.Bits.{two_at_lem, Counted, Blank}
+use Rattle.marks.specs.Bits.{Counted, Blank}
 use Rattle.marks.proofs.Digits.{blank_at}
 use Rattle.reaches.specs.Knowing.{Knowing}
 

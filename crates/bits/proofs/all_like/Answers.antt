@@ -1,5 +1,4 @@
 -- `bits::all_like`: the nodes passed have as many children as their taxa want. Assumes nothing.
-use Prim.Native.Nat.{◌-◌}
 use mathlib.Core.Path.{sym, ◌∙◌}
 use lib.Dec.{eqb→eq}
 use borrow.Author.Count.{below_none, below_more}

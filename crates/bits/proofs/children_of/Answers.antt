@@ -1,5 +1,4 @@
 -- `bits::children_of`: so many of the nodes passed are children. Assumes nothing.
-use Prim.Native.Nat.{◌-◌}
 use mathlib.Core.Path.{◌≡◌, refl}
 use lib.ListN.{length}
 use Rattle.trees.specs.Lists.{range, keep_if}

@@ -1,5 +1,4 @@
 -- `bits::count_pairs`: after i nodes the table has the children among them. Assumes nothing.
-use Prim.Native.Nat.{◌-◌}
 use native.Mathlib.Omega.{arith}
 use mathlib.Core.Path.{◌≡◌}
 use lib.ListN.{length}

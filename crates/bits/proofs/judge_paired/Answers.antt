@@ -1,5 +1,4 @@
 -- `bits::judge_paired`: the nodes passed keep the rule. Assumes nothing.
-use Prim.Native.Nat.{◌-◌}
 use mathlib.Core.Path.{sym, ap, ◌∙◌}
 use borrow.Author.Count.{below_none, below_more}
 use Rattle.trees.specs.Rulings.{refused_by}

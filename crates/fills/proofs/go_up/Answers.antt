@@ -27,15 +27,15 @@ shape_of-labels-then-q-u c = c.loop-ordered.invariant.1.labels_kept.size
 
 pub returns-then-q-u : goal.returns-then-q-u
 returns-then-q-u c =
-    let upper : length c.args.gene_parents.now ≤ get_or c.args.gene_parents.now c.loop-ordered.v 0 = search rules in  going_root c.requires.0 c.loop-ordered.invariant.1 upper
+    let upper : length c.args.gene_parents.now ≤ get_or c.args.gene_parents.now c.loop-ordered.v 0 = search rules in going_root c.requires.0 c.loop-ordered.invariant.1 upper
 
 pub offset_bounds-labels-u : goal.offset_bounds-labels-u
 offset_bounds-labels-u c =
-    let lower : get_or c.args.gene_parents.now c.loop-ordered.v 0 < length c.args.gene_parents.now = search rules in  omega (arith, lower, c.requires.0.sound.genes.few)
+    let lower : get_or c.args.gene_parents.now c.loop-ordered.v 0 < length c.args.gene_parents.now = search rules in omega (arith, lower, c.requires.0.sound.genes.few)
 
 pub bounds-labels-u : goal.bounds-labels-u
 bounds-labels-u c =
-    let lower : get_or c.args.gene_parents.now c.loop-ordered.v 0 < length c.args.gene_parents.now = search rules in  omega (arith, lower, c.loop-ordered.invariant.1.filling.labels_room)
+    let lower : get_or c.args.gene_parents.now c.loop-ordered.v 0 < length c.args.gene_parents.now = search rules in omega (arith, lower, c.loop-ordered.invariant.1.filling.labels_room)
 
 pub offset_bounds-places-v : goal.offset_bounds-places-v
 offset_bounds-places-v c = omega (arith, c.loop-ordered.invariant.1.inside, c.requires.0.sound.genes.few)
@@ -45,19 +45,19 @@ bounds-places-v c = omega (arith, c.loop-ordered.invariant.1.inside, c.loop-orde
 
 pub offset_bounds-places-u : goal.offset_bounds-places-u
 offset_bounds-places-u c =
-    let lower : get_or c.args.gene_parents.now c.loop-ordered.v 0 < length c.args.gene_parents.now = search rules in  omega (arith, lower, c.requires.0.sound.genes.few)
+    let lower : get_or c.args.gene_parents.now c.loop-ordered.v 0 < length c.args.gene_parents.now = search rules in omega (arith, lower, c.requires.0.sound.genes.few)
 
 pub bounds-places-u : goal.bounds-places-u
 bounds-places-u c =
-    let lower : get_or c.args.gene_parents.now c.loop-ordered.v 0 < length c.args.gene_parents.now = search rules in  omega (arith, lower, c.loop-ordered.invariant.1.filling.places_room)
+    let lower : get_or c.args.gene_parents.now c.loop-ordered.v 0 < length c.args.gene_parents.now = search rules in omega (arith, lower, c.loop-ordered.invariant.1.filling.places_room)
 
 pub offset_bounds-labels-u-then-labels-u-eq3 : goal.offset_bounds-labels-u-then-labels-u-eq3
 offset_bounds-labels-u-then-labels-u-eq3 c =
-    let lower : get_or c.args.gene_parents.now c.loop-ordered.v 0 < length c.args.gene_parents.now = search rules in  omega (arith, lower, c.requires.0.sound.genes.few)
+    let lower : get_or c.args.gene_parents.now c.loop-ordered.v 0 < length c.args.gene_parents.now = search rules in omega (arith, lower, c.requires.0.sound.genes.few)
 
 pub bounds-labels-u-then-labels-u-eq3 : goal.bounds-labels-u-then-labels-u-eq3
 bounds-labels-u-then-labels-u-eq3 c =
-    let lower : get_or c.args.gene_parents.now c.loop-ordered.v 0 < length c.args.gene_parents.now = search rules in  omega (arith, lower, c.loop-ordered.invariant.1.filling.labels_room)
+    let lower : get_or c.args.gene_parents.now c.loop-ordered.v 0 < length c.args.gene_parents.now = search rules in omega (arith, lower, c.loop-ordered.invariant.1.filling.labels_room)
 
 pub shape_of-places-then-labels-u-eq3 : goal.shape_of-places-then-labels-u-eq3
 shape_of-places-then-labels-u-eq3 c = simp length-set c.loop-ordered.invariant.1.places_kept.size
@@ -67,16 +67,16 @@ shape_of-labels-then-labels-u-eq3 c = simp length-set c.loop-ordered.invariant.1
 
 pub returns-then-labels-u-eq3 : goal.returns-then-labels-u-eq3
 returns-then-labels-u-eq3 c =
-    let lower : get_or c.args.gene_parents.now c.loop-ordered.v 0 < length c.args.gene_parents.now = search rules in  going_half c.requires.0 c.loop-ordered.invariant.1 lower c.if-labels-u-eq3.true
+    let lower : get_or c.args.gene_parents.now c.loop-ordered.v 0 < length c.args.gene_parents.now = search rules in going_half c.requires.0 c.loop-ordered.invariant.1 lower c.if-labels-u-eq3.true
 
 pub finish-requires : goal.finish-requires
 finish-requires c =
-    let lower : get_or c.args.gene_parents.now c.loop-ordered.v 0 < length c.args.gene_parents.now = search rules in  (going_ready c.requires.0 c.loop-ordered.invariant.1 lower c.if-labels-u-eq3.false, c.requires.1)
+    let lower : get_or c.args.gene_parents.now c.loop-ordered.v 0 < length c.args.gene_parents.now = search rules in (going_ready c.requires.0 c.loop-ordered.invariant.1 lower c.if-labels-u-eq3.false, c.requires.1)
 
 pub loop-ordered-smaller : goal.loop-ordered-smaller
 loop-ordered-smaller c =
-    let lower : get_or c.args.gene_parents.now c.loop-ordered.v 0 < length c.args.gene_parents.now = search rules in  going_nearer c.requires.0 c.loop-ordered.invariant.1 lower
+    let lower : get_or c.args.gene_parents.now c.loop-ordered.v 0 < length c.args.gene_parents.now = search rules in going_nearer c.requires.0 c.loop-ordered.invariant.1 lower
 
 pub loop-ordered-preserved : goal.loop-ordered-preserved
 loop-ordered-preserved c =
-    let lower : get_or c.args.gene_parents.now c.loop-ordered.v 0 < length c.args.gene_parents.now = search rules in  (refl, going_done c.requires.0 c.loop-ordered.invariant.1 lower c.if-labels-u-eq3.false _ _ c.finish.ensures)
+    let lower : get_or c.args.gene_parents.now c.loop-ordered.v 0 < length c.args.gene_parents.now = search rules in (refl, going_done c.requires.0 c.loop-ordered.invariant.1 lower c.if-labels-u-eq3.false _ _ c.finish.ensures)

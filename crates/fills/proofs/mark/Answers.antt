@@ -1,5 +1,4 @@
 -- `fills::mark`: the labels passed are 3. Assumes nothing.
-use Prim.Native.Nat.{◌-◌}
 use native.Mathlib.Omega.{arith}
 use borrow.Author.Count.{below_none}
 use Rattle.fills.proofs.Turns.{kept_self, mark_turn}

@@ -13,14 +13,14 @@ go_up-requires c = (take_leaf c.requires.0 c.if-gene_taxa-k-eq0.false, c.require
 pub shape_of-places : goal.shape_of-places
 shape_of-places c =
     let risen : let s = c in
-    Risen (pair s.args.species_parents.now s.args.species_taxa.now s.args.gene_parents.now s.args.gene_taxa.now) s.args.node.0 s.args.places.now c.go_up.new.places s.args.labels.now c.go_up.new.labels = take_risen c.requires.0 _ _ c.go_up.ensures in  risen.places_kept.size
+    Risen (pair s.args.species_parents.now s.args.species_taxa.now s.args.gene_parents.now s.args.gene_taxa.now) s.args.node.0 s.args.places.now c.go_up.new.places s.args.labels.now c.go_up.new.labels = take_risen c.requires.0 _ _ c.go_up.ensures in risen.places_kept.size
 
 pub shape_of-labels : goal.shape_of-labels
 shape_of-labels c =
     let risen : let s = c in
-    Risen (pair s.args.species_parents.now s.args.species_taxa.now s.args.gene_parents.now s.args.gene_taxa.now) s.args.node.0 s.args.places.now c.go_up.new.places s.args.labels.now c.go_up.new.labels = take_risen c.requires.0 _ _ c.go_up.ensures in  risen.labels_kept.size
+    Risen (pair s.args.species_parents.now s.args.species_taxa.now s.args.gene_parents.now s.args.gene_taxa.now) s.args.node.0 s.args.places.now c.go_up.new.places s.args.labels.now c.go_up.new.labels = take_risen c.requires.0 _ _ c.go_up.ensures in risen.labels_kept.size
 
 pub returns : goal.returns
 returns c =
     let risen : let s = c in
-    Risen (pair s.args.species_parents.now s.args.species_taxa.now s.args.gene_parents.now s.args.gene_taxa.now) s.args.node.0 s.args.places.now c.go_up.new.places s.args.labels.now c.go_up.new.labels = take_risen c.requires.0 _ _ c.go_up.ensures in  risen
+    Risen (pair s.args.species_parents.now s.args.species_taxa.now s.args.gene_parents.now s.args.gene_taxa.now) s.args.node.0 s.args.places.now c.go_up.new.places s.args.labels.now c.go_up.new.labels = take_risen c.requires.0 _ _ c.go_up.ensures in risen

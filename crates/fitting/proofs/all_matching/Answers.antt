@@ -1,5 +1,4 @@
 -- `fitting::all_matching`: nothing is noted exactly if labels and taxa of the nodes passed go together. Assumes nothing.
-use Prim.Native.Nat.{◌-◌}
 use lib.Dec.{eqb→eq}
 use Rattle.passes.proofs.Noting.{noted_none, noted_add}
 use borrow.Author.Rules.{rules}

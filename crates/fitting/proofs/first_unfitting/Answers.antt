@@ -1,5 +1,4 @@
 -- `fitting::first_unfitting`: the nodes passed have places and right labels. Assumes nothing.
-use Prim.Native.Nat.{◌-◌}
 use mathlib.Core.Path.{sym, ap, ◌∙◌}
 use borrow.Author.Count.{below_none, below_more}
 use Rattle.trees.proofs.Bools.{true_T}

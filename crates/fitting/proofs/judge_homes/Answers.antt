@@ -1,5 +1,4 @@
 -- `fitting::judge_homes`: the leaves passed are at their species. Assumes nothing.
-use Prim.Native.Nat.{◌-◌}
 use mathlib.Core.Path.{sym, ap, ◌∙◌}
 use borrow.Author.Count.{below_none, below_more}
 use Rattle.trees.proofs.Bools.{true_T}

@@ -1,5 +1,4 @@
 -- `nesting::all_split`: nothing is noted exactly if the nodes passed are split. Assumes nothing.
-use Prim.Native.Nat.{◌-◌}
 use lib.Dec.{eqb→eq}
 use Rattle.passes.proofs.Noting.{noted_none, noted_add}
 use borrow.Author.Rules.{rules}

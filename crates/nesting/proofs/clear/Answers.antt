@@ -1,5 +1,4 @@
 -- `nesting::clear`: the entries passed are zero. Assumes nothing.
-use Prim.Native.Nat.{◌-◌}
 use borrow.Author.Count.{below_none}
 use Rattle.trees.proofs.Lent.{blank_more}
 use borrow.Author.Rules.{rules}

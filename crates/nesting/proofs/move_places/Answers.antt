@@ -1,5 +1,4 @@
 -- `nesting::move_places`: the entries passed have the positions of their places. Assumes nothing.
-use Prim.Native.Nat.{◌-◌}
 use native.Mathlib.Omega.{arith}
 use borrow.Author.Count.{below_none}
 use Rattle.nesting.proofs.Moving.{moved_more}

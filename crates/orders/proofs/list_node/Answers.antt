@@ -19,15 +19,15 @@ spot_over-requires c = (c.requires.inside, c.requires.listing.spots_size)
 
 pub offset_bounds-copy-count : goal.offset_bounds-copy-count
 offset_bounds-copy-count c =
-    let fits : c.args.count < length c.args.parents.now = let p = c.requires in list_few p.listing _ p.inside c.if-spots-node.false p.parent in  omega (arith, fits)
+    let fits : c.args.count < length c.args.parents.now = let p = c.requires in list_few p.listing _ p.inside c.if-spots-node.false p.parent in omega (arith, fits)
 
 pub bounds-copy-count : goal.bounds-copy-count
 bounds-copy-count c =
-    let fits : c.args.count < length c.args.parents.now = let p = c.requires in list_few p.listing _ p.inside c.if-spots-node.false p.parent in  omega (arith, fits, c.requires.listing.copy_size)
+    let fits : c.args.count < length c.args.parents.now = let p = c.requires in list_few p.listing _ p.inside c.if-spots-node.false p.parent in omega (arith, fits, c.requires.listing.copy_size)
 
 pub overflow_cast-spots : goal.overflow_cast-spots
 overflow_cast-spots c =
-    let fits : c.args.count < length c.args.parents.now = let p = c.requires in list_few p.listing _ p.inside c.if-spots-node.false p.parent in  omega (arith, fits, c.requires.listing.entries.few)
+    let fits : c.args.count < length c.args.parents.now = let p = c.requires in list_few p.listing _ p.inside c.if-spots-node.false p.parent in omega (arith, fits, c.requires.listing.entries.few)
 
 pub offset_bounds-spots-node-2 : goal.offset_bounds-spots-node-2
 offset_bounds-spots-node-2 c = omega (arith, c.requires.inside, c.requires.listing.entries.few)
@@ -37,7 +37,7 @@ bounds-spots-node-2 c = omega (arith, c.requires.inside, c.requires.listing.spot
 
 pub overflow_add-result : goal.overflow_add-result
 overflow_add-result c =
-    let fits : c.args.count < length c.args.parents.now = let p = c.requires in list_few p.listing _ p.inside c.if-spots-node.false p.parent in  omega (arith, fits, c.requires.listing.entries.few)
+    let fits : c.args.count < length c.args.parents.now = let p = c.requires in list_few p.listing _ p.inside c.if-spots-node.false p.parent in omega (arith, fits, c.requires.listing.entries.few)
 
 pub returns : goal.returns
 returns c =

@@ -1,5 +1,5 @@
 -- `orders::list_way`: the entries passed have positions, each after its parent. Assumes nothing.
-use Prim.Native.Nat.{ℕ, ◌-◌, ◌≤◌, ◌<◌}
+use Prim.Native.Nat.{ℕ, ◌≤◌, ◌<◌}
 use mathlib.Core.Path.{◌≡◌}
 use lib.ListN.{length, get_or}
 use Rattle.orders.specs.Listing.{Has, Listing}

@@ -1,5 +1,4 @@
 -- `orders::note_way`: what is left of the line tells what all of it would, and the way so far is noted. Assumes nothing.
-use Prim.Native.Nat.{◌-◌}
 use native.Mathlib.Omega.{arith}
 use mathlib.Core.Path.{sym, ◌∙◌}
 use mathlib.Core.Logic.{inl, inr}

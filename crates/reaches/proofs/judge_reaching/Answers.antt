@@ -1,5 +1,4 @@
 -- `reaches::judge_reaching`: the nodes passed reach the root. Assumes nothing.
-use Prim.Native.Nat.{◌-◌}
 use mathlib.Core.Path.{sym, ap, ◌∙◌}
 use borrow.Author.Count.{below_none, below_more}
 use Rattle.trees.specs.Rulings.{refused_by}

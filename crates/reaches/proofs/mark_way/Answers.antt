@@ -1,5 +1,4 @@
 -- `reaches::mark_way`: the nodes marked so far reach the root, and so does the next. Assumes nothing.
-use Prim.Native.Nat.{◌-◌}
 use native.Mathlib.Omega.{arith}
 use mathlib.Core.Path.{sym, ◌∙◌}
 use Rattle.marks.proofs.Digits.{added, adds}

@@ -1,5 +1,4 @@
 -- `reaches::reaches`: what is left of the line tells what all of it would. Assumes nothing.
-use Prim.Native.Nat.{◌-◌}
 use native.Mathlib.Omega.{arith}
 use mathlib.Core.Path.{sym, ◌∙◌}
 use Rattle.trees.specs.Trees.{here}

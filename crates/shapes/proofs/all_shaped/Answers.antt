@@ -1,5 +1,4 @@
 -- `shapes::all_shaped`: where none is counted as wrong, the nodes passed have as many children as their taxa want. Assumes nothing.
-use Prim.Native.Nat.{◌-◌}
 use mathlib.Core.Path.{◌≡◌}
 use lib.ListN.{get_or}
 use lib.Dec.{eqb→eq}

@@ -1,5 +1,5 @@
 -- `shapes::count_children`: after i nodes the table has the children among them. Assumes nothing.
-use Prim.Native.Nat.{ℕ, ◌-◌}
+use Prim.Native.Nat.{ℕ}
 use native.Mathlib.Omega.{arith}
 use mathlib.Core.Path.{◌∙◌}
 use lib.ListN.{get_or, length-set}

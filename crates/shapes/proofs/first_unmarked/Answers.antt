@@ -1,5 +1,4 @@
 -- `shapes::first_unmarked`: the nodes passed have a taxon exactly if they are leaves. Assumes nothing.
-use Prim.Native.Nat.{◌-◌}
 use mathlib.Core.Path.{sym, ◌∙◌}
 use borrow.Author.Count.{below_none, below_more}
 use Rattle.trees.proofs.Bools.{true_T}

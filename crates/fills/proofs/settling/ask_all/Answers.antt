@@ -1,5 +1,4 @@
 -- `fills::settling::ask_all`: entries that are no gene node's stay. Assumes nothing.
-use Prim.Native.Nat.{◌-◌}
 use native.Mathlib.Omega.{arith}
 use mathlib.Core.Path.{refl}
 use Rattle.fills.proofs.Turns.{kept_self, kept_join}

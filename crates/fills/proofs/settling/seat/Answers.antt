@@ -12,4 +12,4 @@ returns-in_default c = absurd (seat_somewhere _ _ _ c.species_of-found.ensures c
 
 pub returns : goal.returns
 returns c =
-    let found : let s = c in Carries s.args.species_taxa.now s.args.sought c.in-At.home.0 = let k = c in seat_found _ _ _ k.species_of-found.ensures k.requires _ c.in-At.is in  found
+    let found : let s = c in Carries s.args.species_taxa.now s.args.sought c.in-At.home.0 = let k = c in seat_found _ _ _ k.species_of-found.ensures k.requires _ c.in-At.is in found

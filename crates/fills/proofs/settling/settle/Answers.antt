@@ -1,5 +1,4 @@
 -- `fills::settling::settle`: the leaves passed are at home. Assumes nothing.
-use Prim.Native.Nat.{◌-◌}
 use native.Mathlib.Omega.{arith}
 use mathlib.Core.Path.{refl, ◌∙◌}
 use Rattle.fills.proofs.Turns.{kept_self}

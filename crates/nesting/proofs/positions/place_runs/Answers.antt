@@ -1,5 +1,5 @@
 -- `nesting::positions::place_runs`: the nodes passed have where their run starts. Assumes nothing.
-use Prim.Native.Nat.{◌-◌, ◌<◌}
+use Prim.Native.Nat.{◌<◌}
 use native.Mathlib.Omega.{arith}
 use mathlib.Core.Path.{◌≡◌}
 use lib.ListN.{length, get_or}
@@ -19,11 +19,11 @@ bounds-starts-i c = omega (arith, c.loop-i.invariant.3.size, c.requires.1.2.off_
 
 pub offset_bounds-starts-u : goal.offset_bounds-starts-u
 offset_bounds-starts-u c =
-    let inside : get_or c.args.parents.now c.loop-i.i 0 < c.loop-i.i = parent_in _ _ (search rules) (c.requires.2.order _ (search rules) (search rules)) in  omega (arith, inside, c.requires.0.1.few)
+    let inside : get_or c.args.parents.now c.loop-i.i 0 < c.loop-i.i = parent_in _ _ (search rules) (c.requires.2.order _ (search rules) (search rules)) in omega (arith, inside, c.requires.0.1.few)
 
 pub bounds-starts-u : goal.bounds-starts-u
 bounds-starts-u c =
-    let inside : get_or c.args.parents.now c.loop-i.i 0 < c.loop-i.i = parent_in _ _ (search rules) (c.requires.2.order _ (search rules) (search rules)) in  omega (arith, inside, c.loop-i.invariant.3.size, c.requires.1.2.off_room)
+    let inside : get_or c.args.parents.now c.loop-i.i 0 < c.loop-i.i = parent_in _ _ (search rules) (c.requires.2.order _ (search rules) (search rules)) in omega (arith, inside, c.loop-i.invariant.3.size, c.requires.1.2.off_room)
 
 pub overflow_add-starts : goal.overflow_add-starts
 overflow_add-starts c = omega (arith, settling_fits c.requires.0.1 c.requires.2 c.requires.1.2 (search rules) c.loop-i.invariant.3 (search rules) (search rules))

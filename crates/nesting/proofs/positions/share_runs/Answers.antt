@@ -16,30 +16,30 @@ overflow_cast-u c = omega (arith, c.type_inv.parents (c.loop-i.i - 1))
 
 pub offset_bounds-runs-u : goal.offset_bounds-runs-u
 offset_bounds-runs-u c =
-    let inside : get_or c.args.parents.now (c.loop-i.i - 1) 0 < c.loop-i.i - 1 = parent_in _ _ (search rules) (c.requires.first.order _ (search rules) (search rules)) in  omega (arith, inside, c.requires.tree.1.few)
+    let inside : get_or c.args.parents.now (c.loop-i.i - 1) 0 < c.loop-i.i - 1 = parent_in _ _ (search rules) (c.requires.first.order _ (search rules) (search rules)) in omega (arith, inside, c.requires.tree.1.few)
 
 pub bounds-runs-u : goal.bounds-runs-u
 bounds-runs-u c =
-    let inside : get_or c.args.parents.now (c.loop-i.i - 1) 0 < c.loop-i.i - 1 = parent_in _ _ (search rules) (c.requires.first.order _ (search rules) (search rules)) in  omega (arith, inside, c.loop-i.invariant.2.run_room)
+    let inside : get_or c.args.parents.now (c.loop-i.i - 1) 0 < c.loop-i.i - 1 = parent_in _ _ (search rules) (c.requires.first.order _ (search rules) (search rules)) in omega (arith, inside, c.loop-i.invariant.2.run_room)
 
 pub offset_bounds-turns-u : goal.offset_bounds-turns-u
 offset_bounds-turns-u c =
-    let inside : get_or c.args.parents.now (c.loop-i.i - 1) 0 < c.loop-i.i - 1 = parent_in _ _ (search rules) (c.requires.first.order _ (search rules) (search rules)) in  omega (arith, inside, c.requires.tree.1.few)
+    let inside : get_or c.args.parents.now (c.loop-i.i - 1) 0 < c.loop-i.i - 1 = parent_in _ _ (search rules) (c.requires.first.order _ (search rules) (search rules)) in omega (arith, inside, c.requires.tree.1.few)
 
 pub bounds-turns-u : goal.bounds-turns-u
 bounds-turns-u c =
-    let inside : get_or c.args.parents.now (c.loop-i.i - 1) 0 < c.loop-i.i - 1 = parent_in _ _ (search rules) (c.requires.first.order _ (search rules) (search rules)) in  omega (arith, inside, c.loop-i.invariant.2.turn_room)
+    let inside : get_or c.args.parents.now (c.loop-i.i - 1) 0 < c.loop-i.i - 1 = parent_in _ _ (search rules) (c.requires.first.order _ (search rules) (search rules)) in omega (arith, inside, c.loop-i.invariant.2.turn_room)
 
 pub overflow_add-runs : goal.overflow_add-runs
 overflow_add-runs c = omega (arith, shared_fits c.requires.tree.1 c.requires.first (c.loop-i.i - 1) (search rules) (search rules) (search rules) c.loop-i.invariant.2)
 
 pub offset_bounds-runs-u-in-loop-i : goal.offset_bounds-runs-u-in-loop-i
 offset_bounds-runs-u-in-loop-i c =
-    let inside : get_or c.args.parents.now (c.loop-i.i - 1) 0 < c.loop-i.i - 1 = parent_in _ _ (search rules) (c.requires.first.order _ (search rules) (search rules)) in  omega (arith, inside, c.requires.tree.1.few)
+    let inside : get_or c.args.parents.now (c.loop-i.i - 1) 0 < c.loop-i.i - 1 = parent_in _ _ (search rules) (c.requires.first.order _ (search rules) (search rules)) in omega (arith, inside, c.requires.tree.1.few)
 
 pub bounds-runs-u-in-loop-i : goal.bounds-runs-u-in-loop-i
 bounds-runs-u-in-loop-i c =
-    let inside : get_or c.args.parents.now (c.loop-i.i - 1) 0 < c.loop-i.i - 1 = parent_in _ _ (search rules) (c.requires.first.order _ (search rules) (search rules)) in  omega (arith, inside, c.loop-i.invariant.2.run_room)
+    let inside : get_or c.args.parents.now (c.loop-i.i - 1) 0 < c.loop-i.i - 1 = parent_in _ _ (search rules) (c.requires.first.order _ (search rules) (search rules)) in omega (arith, inside, c.loop-i.invariant.2.run_room)
 
 pub loop-i-preserved : goal.loop-i-preserved
 loop-i-preserved c = (search rules, search rules, shared_turn c.requires.tree.1 c.requires.first (c.loop-i.i - 1) (search rules) (search rules) (search rules) c.loop-i.invariant.2, search rules, search rules, search rules)

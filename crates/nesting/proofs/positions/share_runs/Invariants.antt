@@ -1,5 +1,5 @@
 -- `nesting::positions::share_runs`: the nodes from i on have their part of their parent's run. Assumes nothing.
-use Prim.Native.Nat.{◌-◌, ◌≤◌}
+use Prim.Native.Nat.{◌≤◌}
 use mathlib.Core.Path.{◌≡◌}
 use lib.ListN.{length}
 use Rattle.nesting.specs.Runs.{Shared}
