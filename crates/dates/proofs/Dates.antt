@@ -68,3 +68,7 @@ module _ {w : Pair} {gp p l : List ℕ} (X : Told w gp p l) where
 
   pub date_from : (v u : ℕ) → v < length gp → length gp ≤ u → get_or l v 0 ≡ 2 → latest w v ≡ nearest w u → from (get_or p v 0) ≡ dated w v
   date_from v u h k t e = sym (dated_from X.sound v (sym (label_at v h) ∙ t) (e ∙ nearest_none u k) ∙ rw (place_at v h))
+
+-- a speciation on the way up, where the least history's tables are told
+pub dated_here : (gp p l : List ℕ) (v u : ℕ) → v < length gp → u < length gp → get_or l v 0 ≡ 2 → ((w : Pair) → Told w gp p l → latest w v ≡ nearest w u) → get_or l u 0 ≡ 1 → (w : Pair) → Told w gp p l → between (get_or p v 0) (get_or p u 0) ≡ dated w v
+dated_here gp p l v u h k t e s w X = date_between X v u h k t (e w X) s

@@ -24,6 +24,7 @@ pub enum DatingAnswer {
 }
 
 // When the gene node was duplicated, by the places and labels of the least history.
+#[tactic(auto, using(crate::proofs::Dates::dated_here))]
 fn date_by(gene_parents: &[u16], places: &[u16], labels: &[u16], node: GeneNode) -> Dating
     requires { Datable gene_parents.now places.now labels.now node.0 }
     ensures { (w : Pair) → Told w gene_parents.now places.now labels.now → dated_of result ≡ dated w node.0 }

@@ -1,5 +1,5 @@
 -- A gene leaf at its species has a species taxon; and no taxon of a sound species tree stands twice. Assumes nothing.
-use Prim.Native.Nat.{ℕ, ◌≤◌, ◌<◌}
+use Prim.Native.Nat.{ℕ, ◌≤◌}
 use native.Mathlib.Omega.{arith}
 use native.Mathlib.Decide.{ℕ_discrete}
 use mathlib.Core.Path.{◌≡◌, sym}

@@ -18,6 +18,7 @@ ghost use Rattle.judges.specs.Promises.{JudgeSpeciesMeets, JudgeFamilyMeets, Jud
 use trees::{Judged, refuse};
 
 // Rule 1: neither table is empty or over 2,047, and the two agree in length.
+#[tactic(auto, unfolding(trees::specs::Rules::sized))]
 fn sized_tables(parents: &[u16], taxa: &[u32]) -> bool
     ensures { result ≡ sized parents.now taxa.now }
 {

@@ -2,7 +2,7 @@
 use native.Mathlib.Omega.{arith}
 use mathlib.Core.Path.{◌≡◌, refl, ◌∙◌}
 use lib.ListN.{get_or}
-use Rattle.dates.proofs.Dates.{line_shorter, latest_start, nearest_turn, date_not, date_between, date_from}
+use Rattle.dates.proofs.Dates.{line_shorter, latest_start, nearest_turn, date_not, date_from}
 use borrow.Author.Rules.{rules}
 use Rattle.dates.proofs.date_by.Goals as goal
 
@@ -36,10 +36,6 @@ offset_bounds-places-u c = omega (arith, c.requires.tree.1.few)
 pub overflow_cast-result : goal.overflow_cast-result
 overflow_cast-result c = omega (arith, c.type_inv.places c.loop-u.u)
 
-pub returns-then-labels-u-eq1 : goal.returns-then-labels-u-eq1
-returns-then-labels-u-eq1 c =
-    let two : get_or c.args.labels.now c.args.node.0 0 ≡ 2 = search rules in  λ w X. date_between X _ _ c.requires.inside (search rules) two (c.loop-u.invariant.1 w X) c.if-labels-u-eq1.true
-
 pub offset_bounds-gene_parents-u : goal.offset_bounds-gene_parents-u
 offset_bounds-gene_parents-u c = omega (arith, c.requires.tree.1.few)
 
@@ -50,8 +46,8 @@ pub loop-u-smaller : goal.loop-u-smaller
 loop-u-smaller c = line_shorter c.requires.tree _ (search rules)
 
 pub loop-u-preserved : goal.loop-u-preserved
-loop-u-preserved c = (refl, λ w X. c.loop-u.invariant.1 w X ∙ nearest_turn X _ (search rules) c.if-labels-u-eq1.false)
+loop-u-preserved c = (refl, λ w X. c.loop-u.invariant.1 w X ∙ nearest_turn X _ (search rules) (search rules))
 
 pub returns : goal.returns
 returns c =
-    let two : get_or c.args.labels.now c.args.node.0 0 ≡ 2 = search rules in  λ w X. date_from X _ _ c.requires.inside (search rules) two (c.loop-u.invariant.1 w X)
+    let two : get_or c.args.labels.now c.args.node.0 0 ≡ 2 = search rules in λ w X. date_from X _ _ c.requires.inside (search rules) two (c.loop-u.invariant.1 w X)

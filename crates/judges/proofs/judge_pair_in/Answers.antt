@@ -15,14 +15,14 @@ returns-in_default c = let e = ap judged_of c.in_default.is in e ∙ sym (pair_s
 
 pub returns-then-not-sized_tables : goal.returns-then-not-sized_tables
 returns-then-not-sized_tables c =
-    let species-fine : verdict (species_rules c.args.species_parents.now c.args.species_taxa.now) ≡ accepted fine = sym c.judge_species_in-species.ensures ∙ ap judged_of c.in-Sound.is in  ap refused_by c.refuse.ensures ∙ sym (pair_1 (pair c.args.species_parents.now c.args.species_taxa.now c.args.gene_parents.now c.args.gene_taxa.now) species-fine (sym c.sized_tables.ensures ∙ c.if-not-sized_tables.true))
+    let species-fine : verdict (species_rules c.args.species_parents.now c.args.species_taxa.now) ≡ accepted fine = sym c.judge_species_in-species.ensures ∙ ap judged_of c.in-Sound.is in ap refused_by c.refuse.ensures ∙ sym (pair_1 (pair c.args.species_parents.now c.args.species_taxa.now c.args.gene_parents.now c.args.gene_taxa.now) species-fine (sym c.sized_tables.ensures ∙ c.if-not-sized_tables.true))
 
 pub judge_genes-requires : goal.judge_genes-requires
 judge_genes-requires c =
     let species-fine : verdict (species_rules c.args.species_parents.now c.args.species_taxa.now) ≡ accepted fine = sym c.judge_species_in-species.ensures ∙ ap judged_of c.in-Sound.is in
-    let sized-here : T (sized c.args.gene_parents.now c.args.gene_taxa.now) = true_T (sym c.sized_tables.ensures ∙ c.if-not-sized_tables.false) in  (species_here (pair c.args.species_parents.now c.args.species_taxa.now c.args.gene_parents.now c.args.gene_taxa.now) species-fine, sized-here, search rules)
+    let sized-here : T (sized c.args.gene_parents.now c.args.gene_taxa.now) = true_T (sym c.sized_tables.ensures ∙ c.if-not-sized_tables.false) in (species_here (pair c.args.species_parents.now c.args.species_taxa.now c.args.gene_parents.now c.args.gene_taxa.now) species-fine, sized-here, search rules)
 
 pub returns : goal.returns
 returns c =
     let species-fine : verdict (species_rules c.args.species_parents.now c.args.species_taxa.now) ≡ accepted fine = sym c.judge_species_in-species.ensures ∙ ap judged_of c.in-Sound.is in
-    let sized-here : T (sized c.args.gene_parents.now c.args.gene_taxa.now) = true_T (sym c.sized_tables.ensures ∙ c.if-not-sized_tables.false) in  c.judge_genes.ensures ∙ sym (pair_family (pair c.args.species_parents.now c.args.species_taxa.now c.args.gene_parents.now c.args.gene_taxa.now) species-fine sized-here)
+    let sized-here : T (sized c.args.gene_parents.now c.args.gene_taxa.now) = true_T (sym c.sized_tables.ensures ∙ c.if-not-sized_tables.false) in c.judge_genes.ensures ∙ sym (pair_family (pair c.args.species_parents.now c.args.species_taxa.now c.args.gene_parents.now c.args.gene_taxa.now) species-fine sized-here)

@@ -7,7 +7,6 @@ use Rattle.trees.proofs.Bools.{true_T}
 use Rattle.trees.proofs.Soundness.{sized_is}
 use Rattle.trees.specs.Answers.{judged_of}
 use Rattle.judges.proofs.Shapes.{species_1, species_shape, species_repeats}
-use borrow.Author.Rules.{rules}
 use Rattle.judges.proofs.judge_rack.Goals as goal
 
 pub returns-then-not-sized_tables : goal.returns-then-not-sized_tables
@@ -24,4 +23,4 @@ judge_repeats-requires c = let z = sized_is _ _ (true_T (sym c.sized_tables.ensu
 
 pub returns : goal.returns
 returns c =
-    let shape-fine : verdict (shape_rules 1 c.args.species_parents.now c.args.species_taxa.now) ≡ accepted fine = sym c.judge_shape-shape.ensures ∙ ap judged_of c.in-Sound.is in  c.judge_repeats.ensures ∙ sym (species_repeats _ _ (true_T (sym c.sized_tables.ensures ∙ c.if-not-sized_tables.false)) shape-fine)
+    let shape-fine : verdict (shape_rules 1 c.args.species_parents.now c.args.species_taxa.now) ≡ accepted fine = sym c.judge_shape-shape.ensures ∙ ap judged_of c.in-Sound.is in c.judge_repeats.ensures ∙ sym (species_repeats _ _ (true_T (sym c.sized_tables.ensures ∙ c.if-not-sized_tables.false)) shape-fine)

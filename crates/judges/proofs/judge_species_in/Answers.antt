@@ -24,4 +24,4 @@ judge_repeats-requires c = let z = sized_is _ _ (true_T (sym c.sized_tables.ensu
 
 pub returns : goal.returns
 returns c =
-    let shape-fine : verdict (shape_rules 1 c.args.species_parents.now c.args.species_taxa.now) ≡ accepted fine = sym c.judge_shape-tree.ensures ∙ ap judged_of c.in-Sound.is in  c.judge_repeats.ensures ∙ sym (species_repeats _ _ (true_T (sym c.sized_tables.ensures ∙ c.if-not-sized_tables.false)) shape-fine)
+    let shape-fine : verdict (shape_rules 1 c.args.species_parents.now c.args.species_taxa.now) ≡ accepted fine = sym c.judge_shape-tree.ensures ∙ ap judged_of c.in-Sound.is in c.judge_repeats.ensures ∙ sym (species_repeats _ _ (true_T (sym c.sized_tables.ensures ∙ c.if-not-sized_tables.false)) shape-fine)
