@@ -1,7 +1,7 @@
 -- An image judged with no table lent: the rules of the stored family, and that it is judged as it is loaded. Assumes nothing.
 use Prim.Native.Nat.{ℕ, ◌+◌, ◌*◌}
 use mathlib.Core.Path.{◌≡◌, refl, sym, ap, ◌∙◌}
-use mathlib.Core.Bool.{true}
+use mathlib.Core.Bool.{Bool, true, false}
 use mathlib.Core.List.{List}
 use lib.ListN.{length}
 use Rattle.trees.specs.Rulings.{Ruling, accepted, refused, Rule, ruling, Fine, fine, verdict, Passes, Every}
@@ -20,9 +20,22 @@ use Rattle.judging.specs.Judging.{table_rules, stored_rules, image_rules, plain}
 pub read_rules : (sp st s : List ℕ) (t : Lent) → Loadable sp st s t → (r : Lent) → r ≡ genes_at (content s) (3 + 3 * length sp) (length t.gp) → table_rules sp st r ≡ stored_rules sp st s
 read_rules sp st s t k r e = ap (table_rules sp st) (tables_read sp st s t k r e)
 
+-- does it accept?
+abbrev accepts : {A : Type 0} → Ruling A → Bool
+accepts (accepted a) = true
+accepts (refused n t v) = false
+
 module _ (sp st s : List ℕ) where
   pub image_opens : Every Passes (open_rules sp st s) → verdict (stored_rules sp st s) ≡ verdict (image_rules sp st s)
   image_opens o = sym (ruling_all (open_rules sp st s) (stored_rules sp st s) fine o)
+
+  opened_by : {A : Type 0} (a : A) (r : Ruling A) → ruling (open_rules sp st s) a ≡ r → accepts r ≡ true → verdict (image_rules sp st s) ≡ verdict (stored_rules sp st s)
+  opened_by a (accepted b) e f = sym (image_opens (ruling_accepted (open_rules sp st s) a b e).0)
+  opened_by a (refused n t v) e f = cc
+
+  -- where an image opens, what is judged is the tables in it
+  pub opened_judged : accepts (ruling (open_rules sp st s) (gene_count (content s))) ≡ true → verdict (image_rules sp st s) ≡ verdict (stored_rules sp st s)
+  opened_judged f = opened_by (gene_count (content s)) (ruling (open_rules sp st s) (gene_count (content s))) refl f
 
   pub image_closed : {X : Type 0} (x : X) (n m v : ℕ) → ruling (open_rules sp st s) x ≡ refused n m v → refused n m v ≡ verdict (image_rules sp st s)
   image_closed x n m v e = sym (ruling_stays (open_rules sp st s) (stored_rules sp st s) x fine n m v e)

@@ -117,6 +117,7 @@ fn judge_many(species_parents: &[u16], species_taxa: &[u32], image: &[u8], q: us
 
 // The image of a family on a rack with these species tables: `Sound` where `load` accepts it, given tables that are long enough, or
 // else the refusal of `load`.
+#[tactic(auto, using(crate::proofs::Judging::opened_judged))]
 pub fn judge_image(species_parents: &[u16], species_taxa: &[u32], image: &[u8]) -> Judged
     ensures { JudgeImageMeets species_parents.now species_taxa.now image.now result }
 {

@@ -18,9 +18,10 @@ returns-in-Refused c = sym (story_trees (pair c.args.species_parents.now c.args.
 
 pub judge_rules-requires : goal.judge_rules-requires
 judge_rules-requires c =
-    let trees-fine : verdict (family_rules (pair c.args.species_parents.now c.args.species_taxa.now c.args.gene_parents.now c.args.gene_taxa.now)) ≡ accepted fine = sym c.judge_family-judged.ensures ∙ ap judged_of c.in_default.is in
-    (record { sound = story_sound _ _ _ c.requires trees-fine; places_room = omega (arith, c.requires.even); labels_room = omega (arith, c.requires.even) }, λ t. housed_homed (c.all_homed-homed.ensures.0 t))
+    let trees_fine : verdict (family_rules (pair c.args.species_parents.now c.args.species_taxa.now c.args.gene_parents.now c.args.gene_taxa.now)) ≡ accepted fine = sym c.judge_family-judged.ensures ∙ ap judged_of c.in_default.is in
+    (record { sound = story_sound _ _ _ c.requires trees_fine; places_room = omega (arith, c.requires.even); labels_room = omega (arith, c.requires.even) }, λ t. housed_homed (c.all_homed-homed.ensures.0 t))
 
 pub returns : goal.returns
 returns c =
-    let trees-fine : verdict (family_rules (pair c.args.species_parents.now c.args.species_taxa.now c.args.gene_parents.now c.args.gene_taxa.now)) ≡ accepted fine = sym c.judge_family-judged.ensures ∙ ap judged_of c.in_default.is in c.judge_rules.ensures ∙ sym (story_descent (pair c.args.species_parents.now c.args.species_taxa.now c.args.gene_parents.now c.args.gene_taxa.now) _ _ trees-fine)
+    let trees_fine : verdict (family_rules (pair c.args.species_parents.now c.args.species_taxa.now c.args.gene_parents.now c.args.gene_taxa.now)) ≡ accepted fine = sym c.judge_family-judged.ensures ∙ ap judged_of c.in_default.is in
+    c.judge_rules.ensures ∙ sym (story_descent (pair c.args.species_parents.now c.args.species_taxa.now c.args.gene_parents.now c.args.gene_taxa.now) _ _ trees_fine)
