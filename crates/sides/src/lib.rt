@@ -48,6 +48,7 @@ fn within(place: SpeciesNode, above: SpeciesNode, side: SpeciesSpot) -> bool
 }
 
 // What is known of a gene node's children once one more has been looked at, which lies on this side.
+#[tactic(auto, unfolding(crate::specs::Visits::merged, trees::specs::Lists::pick))]
 fn merge(seen: u16, side: SpeciesSpot) -> u16
     requires { SmallSide side }
     ensures { result ≡ merged seen (side_entry side) }

@@ -1,5 +1,4 @@
 -- `sides::judge_nested`: the children passed are nested, and their sides are known. Assumes nothing.
-use Prim.Native.Nat.{◌-◌}
 use mathlib.Core.Path.{refl}
 use Rattle.sides.proofs.Steps.{nested_start, nested_visiting, nested_turn, nested_found, nested_end}
 use borrow.Author.Rules.{rules}

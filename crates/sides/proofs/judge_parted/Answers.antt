@@ -1,5 +1,4 @@
 -- `sides::judge_parted`: the speciations passed have a child on either side. Assumes nothing.
-use Prim.Native.Nat.{◌-◌}
 use mathlib.Core.Path.{sym, ap, ◌∙◌}
 use borrow.Author.Count.{below_none, below_more}
 use Rattle.trees.proofs.Bools.{true_T}
