@@ -128,6 +128,7 @@ fn count_leaves(gene_taxa: &[u32]) -> usize
 }
 
 // 1 if this gene node is a leaf whose species the hints find in the round, else 0.
+#[tactic(auto, using(crate::proofs::Held::counts_none))]
 fn held_at(
     species_taxa: &[u32],
     hints: &[u16],

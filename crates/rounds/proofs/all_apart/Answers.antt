@@ -1,5 +1,4 @@
 -- `rounds::all_apart`: no taxon of a leaf in the rounds passed stands at a later node too. Assumes nothing.
-use Prim.Native.Nat.{◌-◌}
 use Rattle.trees.proofs.Bools.{true_T}
 use Rattle.rounds.proofs.Repeats.{unlike_none, unlike_round, unlike_fresh}
 use borrow.Author.Rules.{rules}

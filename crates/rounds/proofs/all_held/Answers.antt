@@ -1,5 +1,4 @@
 -- `rounds::all_held`: no more are counted than gene leaves have a species in the rounds passed. Assumes nothing.
-use Prim.Native.Nat.{◌-◌}
 use native.Mathlib.Omega.{arith}
 use mathlib.Core.Path.{◌≡◌, ◌∙◌}
 use lib.ListN.{length}

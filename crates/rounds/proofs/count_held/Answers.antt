@@ -1,5 +1,4 @@
 -- `rounds::count_held`: so many more of the gene nodes passed have a species below the end of the round than below its begin. Assumes nothing.
-use Prim.Native.Nat.{◌-◌}
 use native.Mathlib.Omega.{arith}
 use mathlib.Core.Path.{◌≡◌}
 use lib.ListN.{length}

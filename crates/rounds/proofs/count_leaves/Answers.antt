@@ -1,5 +1,4 @@
 -- `rounds::count_leaves`: so many of the nodes passed are leaves. Assumes nothing.
-use Prim.Native.Nat.{◌-◌}
 use mathlib.Core.Path.{◌≡◌, refl}
 use lib.ListN.{length}
 use Rattle.trees.specs.Lists.{range, total}

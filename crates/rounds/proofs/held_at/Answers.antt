@@ -1,4 +1,5 @@
 -- `rounds::held_at`. Assumes nothing.
+use borrow.Author.Rules.{rules}
 use Rattle.rounds.proofs.Held.{counts_none, counts_one}
 use Rattle.rounds.proofs.held_at.Goals as goal
 
@@ -8,15 +9,9 @@ returns-then-sought-eq0 c = counts_none _ _ _ _ _ c.requires.1
 pub returns-in_default : goal.returns-in_default
 returns-in_default c = counts_none _ _ _ _ _ c.requires.1
 
-pub returns-then-s-from : goal.returns-then-s-from
-returns-then-s-from c = counts_none _ _ _ _ _ c.requires.1
-
 pub returns-then-s-to : goal.returns-then-s-to
 returns-then-s-to c =
-    let k = c in
-    let q = k in
-    let s = q in
-    counts_one _ _ s.requires.3 _ _ _ _ q.ask-found.result _ q.if-sought-eq0.false q.ask-found.ensures k.in-At.is c.if-s-from.false c.if-s-to.true
+    counts_one _ _ c.requires.3 _ _ _ _ c.ask-found.result _ c.if-sought-eq0.false c.ask-found.ensures c.in-At.is (search rules) c.if-s-to.true
 
 pub returns-else-s-to : goal.returns-else-s-to
 returns-else-s-to c = counts_none _ _ _ _ _ c.requires.1

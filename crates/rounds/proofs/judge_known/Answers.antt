@@ -1,5 +1,4 @@
 -- `rounds::judge_known`: the quick pass says that the rule holds, or the scan finds the lowest gene node that fails it. Assumes nothing.
-use Prim.Native.Nat.{◌-◌}
 use mathlib.Core.Path.{sym, ap, ◌∙◌}
 use borrow.Author.Count.{below_none, below_more}
 use Rattle.trees.specs.Rulings.{refused_by}

@@ -1,5 +1,4 @@
 -- `rounds::round_apart`: the nodes passed are told apart. Assumes nothing.
-use Prim.Native.Nat.{◌-◌}
 use Rattle.trees.proofs.Bools.{true_T}
 use Rattle.rounds.proofs.Repeats.{from_none, from_more}
 use borrow.Author.Rules.{rules}
