@@ -2,15 +2,8 @@
 use native.Mathlib.Omega.{arith}
 use mathlib.Core.Path.{sym, ap, ◌∙◌}
 use Rattle.trees.specs.Answers.{judged_of}
-use Rattle.rack.specs.Rack.{place_in}
 use Rattle.rack.proofs.Outcomes.{place_small}
 use Rattle.rack.proofs.history_place.Goals as goal
 
 pub overflow_cast-result : goal.overflow_cast-result
 overflow_cast-result c = omega (arith, place_small _ _ _ _ (sym (ap judged_of c.in-Refused.is) ∙ c.judge_pair-judged.ensures))
-
-pub returns-in-Sound : goal.returns-in-Sound
-returns-in-Sound c = ap place_in (sym (ap judged_of c.in-Sound.is) ∙ c.judge_pair-judged.ensures)
-
-pub returns-in-Refused : goal.returns-in-Refused
-returns-in-Refused c = ap place_in (sym (ap judged_of c.in-Refused.is) ∙ c.judge_pair-judged.ensures)
