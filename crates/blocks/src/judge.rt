@@ -57,6 +57,7 @@ fn refused(number: u16, place: usize) -> Framed
 }
 
 // 13, 14 and 15 of an image of which at most `limit` blocks are allowed.
+#[tactic(auto, using(crate::proofs::Judging::too_long))]
 pub fn judge_blocks(image: &[u8], limit: usize) -> Framed
     ensures { JudgeBlocksMeets image.now limit result }
 {

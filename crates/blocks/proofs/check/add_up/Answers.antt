@@ -1,6 +1,6 @@
 -- `add_up` meets its contract. The loop's invariant: the bytes that are left lead from the sums so far to the sums of all.
 -- The measure is what is left of the 508 bytes. Assumes nothing.
-use Rattle.std.proofs.Common.{◌-◌, refl, arith}
+use Rattle.std.proofs.Common.{refl, arith}
 use Rattle.blocks.proofs.Sums.{sums_four, sums_end}
 use Rattle.blocks.proofs.check.add_up.Goals as goal
 

@@ -1,6 +1,6 @@
 -- `lowest_unsealed` meets its contract. The loop's invariant: all blocks below k bear their checks.
 -- The measure is what is left of the n blocks. Assumes nothing.
-use Rattle.std.proofs.Common.{◌≡◌, ◌-◌, sym, ◌∙◌}
+use Rattle.std.proofs.Common.{◌≡◌, sym, ◌∙◌}
 use Rattle.trees.proofs.Bools.{true_T}
 use Rattle.blocks.specs.Blocks.{part, checked}
 use Rattle.blocks.proofs.Blocks.{part_taken}
