@@ -55,6 +55,7 @@ pub(crate) fn no_tables() -> Refusal
 }
 
 // Do the lengths make two equal tables?
+#[tactic(auto, unfolding(crate::specs::Host::fits))]
 pub(crate) fn fitting(parents: &[u8], taxa: &[u8]) -> bool
     ensures { result ≡ fits parents.now taxa.now }
 {

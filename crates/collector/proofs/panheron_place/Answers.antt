@@ -2,16 +2,8 @@
 use native.Mathlib.Omega.{arith}
 use mathlib.Core.Path.{sym, ap, ◌∙◌}
 use Rattle.trees.specs.Answers.{judged_of}
-use Rattle.rack.specs.Rack.{place_in}
-use Rattle.collector.specs.Host.{host_ruling}
-use Rattle.collector.proofs.Asking.{place_plain, place_small}
+use Rattle.collector.proofs.Asking.{place_small}
 use Rattle.collector.proofs.panheron_place.Goals as goal
 
 pub overflow_cast-result : goal.overflow_cast-result
 overflow_cast-result c = omega (arith, place_small c.args.image.now c.args.parents.now c.args.taxa.now _ _ _ (sym (ap judged_of c.in-Refused.is) ∙ c.refusal-answer.ensures))
-
-pub returns-in-Sound : goal.returns-in-Sound
-returns-in-Sound c = ap place_in (sym (ap judged_of c.in-Sound.is) ∙ c.refusal-answer.ensures) ∙ place_plain (host_ruling c.args.image.now c.args.parents.now c.args.taxa.now)
-
-pub returns-in-Refused : goal.returns-in-Refused
-returns-in-Refused c = ap place_in (sym (ap judged_of c.in-Refused.is) ∙ c.refusal-answer.ensures) ∙ place_plain (host_ruling c.args.image.now c.args.parents.now c.args.taxa.now)

@@ -14,18 +14,16 @@ returns-then-not-fitting c = ap refused_by c.no_tables.ensures ∙ host_unfit _ 
 
 pub returns-then-n-gt2047 : goal.returns-then-n-gt2047
 returns-then-n-gt2047 c =
-    let fit-here : fits c.args.parents.now c.args.taxa.now ≡ true = sym c.fitting.ensures ∙ c.if-not-fitting.false in ap refused_by c.no_tables-then-n-gt2047.ensures ∙ host_long _ _ _ fit-here c.if-n-gt2047.true
-
-pub slice_bounds-on_bytes-end : goal.slice_bounds-on_bytes-end
-slice_bounds-on_bytes-end c = sym (length-take-le _ _ (omega arith))
-
-pub slice_bounds-on_bytes-end-2 : goal.slice_bounds-on_bytes-end-2
-slice_bounds-on_bytes-end-2 c = sym (length-take-le _ _ (omega arith))
+    let fit : fits c.args.parents.now c.args.taxa.now ≡ true = sym c.fitting.ensures ∙ c.if-not-fitting.false in
+    ap refused_by c.no_tables-then-n-gt2047.ensures ∙ host_long _ _ _ fit c.if-n-gt2047.true
 
 pub on_bytes-requires : goal.on_bytes-requires
 on_bytes-requires c =
-    let fit-here : fits c.args.parents.now c.args.taxa.now ≡ true = sym c.fitting.ensures ∙ c.if-not-fitting.false in let f = fit_lengths _ _ fit-here in (f.0 ∙ ap (λ x. 2 * x) (sym (length-take-le _ _ (omega arith))), f.1 ∙ ap (λ x. 4 * x) (sym (length-take-le _ _ (omega arith))))
+    let fit : fits c.args.parents.now c.args.taxa.now ≡ true = sym c.fitting.ensures ∙ c.if-not-fitting.false in
+    let f = fit_lengths _ _ fit in
+    (f.0 ∙ ap (λ x. 2 * x) (sym (length-take-le _ _ (omega arith))), f.1 ∙ ap (λ x. 4 * x) (sym (length-take-le _ _ (omega arith))))
 
 pub returns : goal.returns
 returns c =
-    let fit-here : fits c.args.parents.now c.args.taxa.now ≡ true = sym c.fitting.ensures ∙ c.if-not-fitting.false in c.on_bytes.ensures ∙ host_fit _ _ _ fit-here
+    let fit : fits c.args.parents.now c.args.taxa.now ≡ true = sym c.fitting.ensures ∙ c.if-not-fitting.false in
+    c.on_bytes.ensures ∙ host_fit _ _ _ fit

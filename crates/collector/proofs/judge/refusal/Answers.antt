@@ -1,11 +1,9 @@
 -- `collector::judge::refusal`. Assumes nothing.
-use Prim.Native.Nat.{◌/◌}
 use mathlib.Core.Path.{◌≡◌, sym, ap, ◌∙◌}
 use mathlib.Core.Bool.{true}
-use lib.ListN.{length}
 use Rattle.trees.specs.Rulings.{refused_by}
 use Rattle.judging.specs.Judging.{plain}
-use Rattle.collector.specs.Host.{fits, Halved}
+use Rattle.collector.specs.Host.{fits}
 use Rattle.collector.proofs.Asking.{host_unfit, host_judged, host_long, fit_lengths}
 use Rattle.collector.proofs.judge.refusal.Goals as goal
 
@@ -14,22 +12,27 @@ returns-then-not-fitting c = ap refused_by c.no_tables.ensures ∙ ap plain (hos
 
 pub returns-then-n-gt2047 : goal.returns-then-n-gt2047
 returns-then-n-gt2047 c =
-    let fit-here : fits c.args.parents.now c.args.taxa.now ≡ true = sym c.fitting.ensures ∙ c.if-not-fitting.false in ap refused_by c.no_tables-then-n-gt2047.ensures ∙ ap plain (host_long _ _ _ fit-here c.if-n-gt2047.true)
+    let fit : fits c.args.parents.now c.args.taxa.now ≡ true = sym c.fitting.ensures ∙ c.if-not-fitting.false in
+    ap refused_by c.no_tables-then-n-gt2047.ensures ∙ ap plain (host_long _ _ _ fit c.if-n-gt2047.true)
 
 pub judge_few-requires : goal.judge_few-requires
 judge_few-requires c =
-    let fit-here : fits c.args.parents.now c.args.taxa.now ≡ true = sym c.fitting.ensures ∙ c.if-not-fitting.false in
-    let halved : Halved c.args.parents.now c.args.taxa.now (length c.args.parents.now / 2) = let f = fit_lengths _ _ fit-here in record { parents_size = f.0; taxa_size = f.1 } in (halved, c.if-n-le255.true)
+    let fit : fits c.args.parents.now c.args.taxa.now ≡ true = sym c.fitting.ensures ∙ c.if-not-fitting.false in
+    let f = fit_lengths _ _ fit in
+    (record { parents_size = f.0; taxa_size = f.1 }, c.if-n-le255.true)
 
 pub returns-then-n-le255 : goal.returns-then-n-le255
 returns-then-n-le255 c =
-    let fit-here : fits c.args.parents.now c.args.taxa.now ≡ true = sym c.fitting.ensures ∙ c.if-not-fitting.false in c.judge_few.ensures ∙ host_judged _ _ _ fit-here
+    let fit : fits c.args.parents.now c.args.taxa.now ≡ true = sym c.fitting.ensures ∙ c.if-not-fitting.false in
+    c.judge_few.ensures ∙ host_judged _ _ _ fit
 
 pub judge_many-requires : goal.judge_many-requires
 judge_many-requires c =
-    let fit-here : fits c.args.parents.now c.args.taxa.now ≡ true = sym c.fitting.ensures ∙ c.if-not-fitting.false in
-    let halved : Halved c.args.parents.now c.args.taxa.now (length c.args.parents.now / 2) = let f = fit_lengths _ _ fit-here in record { parents_size = f.0; taxa_size = f.1 } in (halved, c.if-n-gt2047.false)
+    let fit : fits c.args.parents.now c.args.taxa.now ≡ true = sym c.fitting.ensures ∙ c.if-not-fitting.false in
+    let f = fit_lengths _ _ fit in
+    (record { parents_size = f.0; taxa_size = f.1 }, c.if-n-gt2047.false)
 
 pub returns : goal.returns
 returns c =
-    let fit-here : fits c.args.parents.now c.args.taxa.now ≡ true = sym c.fitting.ensures ∙ c.if-not-fitting.false in c.judge_many.ensures ∙ host_judged _ _ _ fit-here
+    let fit : fits c.args.parents.now c.args.taxa.now ≡ true = sym c.fitting.ensures ∙ c.if-not-fitting.false in
+    c.judge_many.ensures ∙ host_judged _ _ _ fit
