@@ -3,6 +3,7 @@
 
 // The numbers of standard input and standard output.
 const STDIN_FILENO: i32 = 0;
+
 const STDOUT_FILENO: i32 = 1;
 
 fn main() {
