@@ -3,15 +3,15 @@ use Prim.Native.Nat.{ℕ}
 use mathlib.Core.List.{List}
 use Rattle.trees.specs.One.{Single}
 use Rattle.trees.specs.Answers.{judged_of}
-use Rattle.trees.specs.declared.Judged.{Judged}
+use Rattle.trees.specs.Answers.{Judged}
 use Rattle.trees.specs.declared.Refusal.{Refusal}
 use Rattle.trees.proofs.One.{single_value}
 use Rattle.least.specs.Answers.{least_of}
-use Rattle.least.specs.declared.LeastAnswer.{LeastAnswer}
+use Rattle.least.specs.Answers.{LeastAnswer}
 use Rattle.dates.specs.Answers.{dating_of}
-use Rattle.dates.specs.declared.DatingAnswer.{DatingAnswer}
+use Rattle.dates.specs.Answers.{DatingAnswer}
 use Rattle.offers.specs.Answers.{offered_of}
-use Rattle.offers.specs.declared.Offered.{Offered}
+use Rattle.offers.specs.Answers.{Offered}
 use Rattle.answers.specs.Readings.{fine_line, refused_line, line_of, sound_line, counts_line, offer_line, dated_line}
 use Rattle.answers.specs.Promises.{OfRefusalMeets, FineMeets, OfJudgedMeets, OfLeastMeets, OfOfferedMeets, OfDatingMeets}
 

@@ -2,14 +2,14 @@
 -- Assumes nothing.
 use Rattle.std.specs.Prelude.{ℕ, ◌≡◌, List}
 use Rattle.trees.specs.Answers.{judged_of}
-use Rattle.trees.specs.declared.Judged.{Judged}
+use Rattle.trees.specs.Answers.{Judged}
 use Rattle.trees.specs.declared.Refusal.{Refusal}
 use Rattle.least.specs.Answers.{least_of}
-use Rattle.least.specs.declared.LeastAnswer.{LeastAnswer}
+use Rattle.least.specs.Answers.{LeastAnswer}
 use Rattle.dates.specs.Answers.{dating_of}
-use Rattle.dates.specs.declared.DatingAnswer.{DatingAnswer}
+use Rattle.dates.specs.Answers.{DatingAnswer}
 use Rattle.offers.specs.Answers.{offered_of}
-use Rattle.offers.specs.declared.Offered.{Offered}
+use Rattle.offers.specs.Answers.{Offered}
 use Rattle.showing.specs.declared.Line.{Line}
 use Rattle.answers.specs.Readings.{fine_line, refused_line, line_of, sound_line, counts_line, offer_line, dated_line}
 

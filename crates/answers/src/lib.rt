@@ -6,11 +6,11 @@ ghost use Rattle.dates.specs.Answers.{dated_of};
 ghost use Rattle.answers.specs.Readings.{dated_line};
 ghost use Rattle.answers.specs.Promises.{OfRefusalMeets, FineMeets, OfJudgedMeets, OfLeastMeets, OfOfferedMeets, OfDatingMeets};
 
-use dates::{Dating, DatingAnswer};
-use least::LeastAnswer;
-use offers::Offered;
+use dates::Dating;
+use least::LeastCounts;
+use offers::HistoryCounts;
 use showing::Line;
-use trees::{Judged, Refusal};
+use trees::Refusal;
 
 pub fn of_refusal(r: Refusal) -> Line
     ensures { OfRefusalMeets r result }
@@ -18,7 +18,7 @@ pub fn of_refusal(r: Refusal) -> Line
     Line {
         refused: true,
         count: 3,
-        numbers: [r.number as u64, r.tree as u64, r.place as u64, 0, 0],
+        numbers: [u64::from(r.number), u64::from(r.tree), r.place as u64, 0, 0],
     }
 }
 
@@ -33,48 +33,48 @@ pub fn fine(count: usize, numbers: [u64; 5]) -> Line
     }
 }
 
-pub fn of_judged(answer: Judged) -> Line
+pub fn of_judged(answer: Result<(), Refusal>) -> Line
     ensures { OfJudgedMeets answer result }
 {
     match answer {
-        Judged::Sound => fine(0, [0, 0, 0, 0, 0]),
-        Judged::Refused(r) => of_refusal(r),
+        Ok(()) => fine(0, [0, 0, 0, 0, 0]),
+        Err(r) => of_refusal(r),
     }
 }
 
-pub fn of_least(answer: LeastAnswer) -> Line
+pub fn of_least(answer: Result<LeastCounts, Refusal>) -> Line
     ensures { OfLeastMeets answer result }
 {
     match answer {
-        LeastAnswer::Done(c) => fine(
+        Ok(c) => fine(
             5,
             [
-                c.duplications as u64,
-                c.losses as u64,
-                c.speciations as u64,
-                c.climbs as u64,
+                u64::from(c.duplications),
+                u64::from(c.losses),
+                u64::from(c.speciations),
+                u64::from(c.climbs),
                 c.cost,
             ],
         ),
-        LeastAnswer::Refused(r) => of_refusal(r),
+        Err(r) => of_refusal(r),
     }
 }
 
-pub fn of_offered(answer: Offered) -> Line
+pub fn of_offered(answer: Result<HistoryCounts, Refusal>) -> Line
     ensures { OfOfferedMeets answer result }
 {
     match answer {
-        Offered::Legal(c) => fine(
+        Ok(c) => fine(
             3,
             [
-                c.duplications as u64,
-                c.losses as u64,
-                c.speciations as u64,
+                u64::from(c.duplications),
+                u64::from(c.losses),
+                u64::from(c.speciations),
                 0,
                 0,
             ],
         ),
-        Offered::Refused(r) => of_refusal(r),
+        Err(r) => of_refusal(r),
     }
 }
 
@@ -88,11 +88,11 @@ fn of_bounds(dating: Dating) -> Line
     }
 }
 
-pub fn of_dating(answer: DatingAnswer) -> Line
+pub fn of_dating(answer: Result<Dating, Refusal>) -> Line
     ensures { OfDatingMeets answer result }
 {
     match answer {
-        DatingAnswer::Dated(d) => of_bounds(d),
-        DatingAnswer::Refused(r) => of_refusal(r),
+        Ok(d) => of_bounds(d),
+        Err(r) => of_refusal(r),
     }
 }

@@ -4,18 +4,19 @@ use Prim.Native.Nat.{ℕ, ◌+◌, ◌≤◌, ◌<◌}
 use native.Mathlib.Omega.{arith}
 use native.Mathlib.Decide.{ℕ_discrete}
 use mathlib.Core.Path.{◌≡◌, refl, sym, ◌∙◌}
-use mathlib.Core.List.{List, [], ◌∷◌}
+use mathlib.Core.Logic.{inl, inr}
+use mathlib.Core.List.{List}
 use lib.ListN.{length, get_or}
 use lib.Dec.{T, eqb}
 use borrow.Author.Tests.{eq-eqb, ne_eqb}
+use mir.Val.{bool_byte}
 use Rattle.trees.specs.Lists.{range, keep_if, one}
 use Rattle.trees.specs.Trees.{up, nodes, kids}
 use Rattle.trees.specs.Tables.{taxon}
-use Rattle.trees.specs.Rulings.{accepted, refused, each, verdict, fine}
-use Rattle.trees.specs.Rules.{sized, paired, marked, child_rules}
+use Rattle.trees.specs.Rules.{sized}
+use Rattle.trees.proofs.Bools.{test}
 use Rattle.trees.proofs.Lists.{keep_more}
 use Rattle.trees.proofs.Lines.{up_at}
-use Rattle.trees.proofs.Rulings.{ruling_all, ruling_stays, ruling_accepted}
 use Rattle.trees.proofs.Soundness.{sized_is}
 use Rattle.shapes.specs.Counts.{wanted_count}
 use Rattle.shapes.proofs.Counting.{kids_to}
@@ -55,18 +56,13 @@ module _ {par : List ℕ} (few : length par ≤ 2047) where
   childed_shapely tax c z C f = record { wanted = λ i h. let ev = (sized_is par tax z).even in sym (C.count i h) ∙ f i (omega arith) }
 
 -- a parent read in a scan
-pub scan_more : (par : List ℕ) (g i n r : ℕ) → i < length par → r ≡ one (eqb (get_or par i 0) g) → n ≡ kids_to par g i → n + r ≡ kids_to par g (i + 1)
-scan_more par g i n r h e k = rw (k, e, ← up_at par i h) (sym (keep_more (λ j. eqb (up par j) g) i))
-
--- ---- what each scan means for the ruling
-
-module _ (t : ℕ) (par tax : List ℕ) where
-  pub scan_3 : (n u v : ℕ) → verdict (each 3 t (length par) (paired par) ∷ []) ≡ refused n u v → verdict (child_rules t par tax) ≡ refused n u v
-  unfolding child_rules
-  scan_3 n u v e = ruling_stays (each 3 t (length par) (paired par) ∷ []) (each 4 t (length par) (marked par tax) ∷ []) fine fine n u v e
-
-  pub scan_4 : verdict (each 3 t (length par) (paired par) ∷ []) ≡ accepted fine → verdict (child_rules t par tax) ≡ verdict (each 4 t (length par) (marked par tax) ∷ [])
-  unfolding child_rules
-  scan_4 a =
-      let rs = each 3 t (length par) (paired par) ∷ [] in
-      ruling_all rs (each 4 t (length par) (marked par tax) ∷ []) fine (ruling_accepted rs fine fine a).0
+pub scan_more : (par : List ℕ) (g i n r : ℕ) → i < length par → r ≡ bool_byte (eqb (get_or par i 0) g) → (n ≤ i) × (n ≡ kids_to par g i)
+    → (n + r ≤ i + 1) × (n + r ≡ kids_to par g (i + 1))
+unfolding one
+scan_more par g i n r h e k =
+    let e' : r ≡ bool_byte (eqb (up par i) g) = rw (up_at par i h) e in
+    let more = keep_more (λ j. eqb (up par j) g) i in
+    elim (test (eqb (up par i) g)) [
+      | inl t ↦ let q : r ≡ 1 = rw t at e' in (omega (arith, q, k.0), omega (arith, q, k.1, rw t at more))
+      | inr t ↦ let q : r ≡ 0 = rw t at e' in (omega (arith, q, k.0), omega (arith, q, k.1, rw t at more))
+    ]

@@ -88,3 +88,22 @@ halves_append b (x ∷ l) m = ap (λ k. (x % b) ∷ (x / b) ∷ k) (halves_appen
 
 pub length_run : (i k : ℕ) (l : List ℕ) → i + k ≤ length l → length (run i k l) ≡ k
 length_run i k l h = length-take-le k (drop i l) (rw length-drop (omega arith))
+
+-- ---- halves joined, from their front and from there on
+
+double : (k : ℕ) → 2 * suc k ≡ suc (suc (2 * k))
+double k = omega arith
+
+pub drop_joined : (b k : ℕ) (l : List ℕ) → drop k (joined b l) ≡ joined b (drop (2 * k) l)
+unfolding joined
+drop_joined b zero l = refl
+drop_joined b (suc k) [] = rw double
+drop_joined b (suc k) (x ∷ []) = rw double
+drop_joined b (suc k) (x ∷ y ∷ l) = rw double (drop_joined b k l)
+
+pub take_joined : (b k : ℕ) (l : List ℕ) → take k (joined b l) ≡ joined b (take (2 * k) l)
+unfolding joined
+take_joined b zero l = refl
+take_joined b (suc k) [] = rw double
+take_joined b (suc k) (x ∷ []) = rw double
+take_joined b (suc k) (x ∷ y ∷ l) = rw double (ap (λ m. (x + b * y) ∷ m) (take_joined b k l))

@@ -1,4 +1,5 @@
 -- One answer only: any two results that meet a contract of this crate are equal. Assumes nothing.
+use Rattle.std.specs.Prelude.{Ok, Err}
 use Rattle.std.proofs.Common.{◌≡◌, ℕ, List, ap}
 use Rattle.trees.specs.One.{Single}
 use Rattle.trees.proofs.Bools.{clash}
@@ -8,17 +9,16 @@ use Rattle.blocks.specs.Blocks.{Sums}
 use Rattle.blocks.specs.Answers.{sums_of, framed_of}
 use Rattle.blocks.specs.Promises.{WordAtMeets, AddUpMeets, SealedMeets, JudgeBlocksMeets}
 use Rattle.blocks.specs.declared.check.Sums as kept
-use Rattle.blocks.specs.declared.judge.Framed.{Framed}
-use Rattle.blocks.specs.declared.judge.Framed.TheVariants.{Blocks, Refused}
+use Rattle.blocks.specs.Answers.{Framed}
 
 sums_one : (a b : kept.Sums) → sums_of a ≡ sums_of b → a ≡ b
 sums_one a b e = ap (λ (s : Sums). record { 0 = s.a; 1 = s.b }) e
 
 pub framed_one : (a b : Framed) → framed_of a ≡ framed_of b → a ≡ b
-framed_one (Blocks n) (Blocks m) e = let f : n ≡ m = cc in ap Blocks f
-framed_one (Blocks n) (Refused s) e = clash (cc)
-framed_one (Refused r) (Blocks m) e = clash (cc)
-framed_one (Refused r) (Refused s) e = ap Refused (refusal_one r s e)
+framed_one (Ok n) (Ok m) e = let f : n ≡ m = cc in ap Ok f
+framed_one (Ok n) (Err s) e = clash (cc)
+framed_one (Err r) (Ok m) e = clash (cc)
+framed_one (Err r) (Err s) e = ap Err (refusal_one r s e)
 
 -- ---- one theorem for each public function
 

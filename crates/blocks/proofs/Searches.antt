@@ -1,5 +1,5 @@
 -- A search for the lowest that fails, as a loop makes it. Assumes nothing.
-use Rattle.std.proofs.Common.{◌≡◌, ℕ, ◌+◌, ◌<◌, ◌≤◌, Bool, false, T, sym, ◌∙◌, arith, below_more}
+use Rattle.std.proofs.Common.{◌≡◌, ℕ, ◌+◌, ◌<◌, ◌≤◌, Bool, false, T, sym, arith, below_more}
 use Rattle.trees.specs.Lists.{lowest}
 use Rattle.trees.specs.Spots.{spot, nowhere, lowest_spot}
 use Rattle.trees.proofs.Lists.{lowest_is, lowest_none}
@@ -27,5 +27,5 @@ module _ (ok : ℕ → Bool) (n : ℕ) where
   pub passed_nowhere : (k : ℕ) → Passed ok n k → n ≤ k → nowhere ≡ lowest_spot ok n
   passed_nowhere k p h = sym (spot_none ok n (lowest_none ok n (λ j b. p.pass j (omega arith))))
 
-  pub passed_all : (k : ℕ) → Passed ok n k → n ≤ k → k ≡ lowest ok n
-  passed_all k p h = let e : k ≡ n = omega (arith, p.low) in e ∙ sym (lowest_none ok n (λ j b. p.pass j (omega arith)))
+  pub passed_all : (k : ℕ) → Passed ok n k → n ≤ k → n ≡ lowest ok n
+  passed_all k p h = sym (lowest_none ok n (λ j b. p.pass j (omega arith)))

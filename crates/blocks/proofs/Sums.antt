@@ -1,5 +1,5 @@
 -- The two sums of a block: as a loop keeps them, and that one changed byte shows. Assumes nothing.
-use Rattle.std.proofs.Common.{◌≡◌, ℕ, zero, suc, ◌+◌, ◌%◌, ◌<◌, ◌≤◌, false, T, eqb, ◌≢◌, List, [], ◌∷◌, length, get_or, take, drop, set, sym, ap, ◌∙◌, inl, inr, arith, eqb→eq, drop_of_length-le, length-take-le, drop-cons, get_or-set_other, get_or-take, get_or-set_same, eq-eqb}
+use Rattle.std.proofs.Common.{add-one, ◌++◌, ◌≡◌, ℕ, zero, suc, ◌+◌, ◌%◌, ◌<◌, ◌≤◌, false, T, eqb, ◌≢◌, List, [], ◌∷◌, length, get_or, take, drop, set, sym, ap, ◌∙◌, inl, inr, arith, eqb→eq, length-take-le, drop-cons, get_or-set_other, get_or-take, get_or-set_same, eq-eqb}
 use native.Mathlib.Decide.{dec_lt, ℕ_discrete}
 use lib.Seq.{take-set-lt, take-set-le}
 use Rattle.trees.proofs.Bools.{test, and_left, and_right, true_T}
@@ -8,30 +8,27 @@ use Rattle.blocks.specs.Blocks.{Sums, start, grown, sums, word, checked}
 
 -- ---- as a loop keeps them
 
--- the sums s after i bytes of l: the bytes that are left lead from them to the sums of all
-abbrev pub SumsAt : List ℕ → ℕ → Sums → Type 0
-SumsAt l i s = sums s (drop i l) ≡ sums start l
+-- the sums s so far lead over the bytes that are left, those of a piece and then whole fours, to the sums of the bytes 0 to 507
+pub record Adding (b piece rest : List ℕ) (size : ℕ) (s : Sums) : Type 0 where
+  pub four : size ≡ 4
+  pub whole : length rest % 4 ≡ 0
+  pub lead : sums s (piece ++ rest) ≡ sums start (take 508 b)
 
-module _ (l : List ℕ) (n : 508 ≤ length l) where
-  sums_more : (i j : ℕ) (s u : Sums) → i < 508 → j ≡ suc i → SumsAt (take 508 l) i s → u ≡ grown s (get_or l i 0) → SumsAt (take 508 l) j u
-  unfolding sums
-  sums_more i j s u h z p e =
-      let d : drop i (take 508 l) ≡ get_or l i 0 ∷ drop (suc i) (take 508 l) = drop-cons (take 508 l) i 0 (rw (length-take-le 508 l n) h) ∙ ap (λ x. x ∷ drop (suc i) (take 508 l)) (get_or-take 508 l i 0 h) in
-      rw (z, e) (rw d at p)
+pub adding_start : (b rest : List ℕ) (size : ℕ) → length b ≡ 512 → rest ≡ take 508 b → size ≡ 4 → Adding b [] rest size start
+adding_start b rest size n e f =
+    let l : length (take 508 b) ≡ 508 = length-take-le 508 b (omega arith) in
+    record { four = f; whole = rw (e, l); lead = ap (sums start) e }
 
-  -- four bytes, one after the other
-  pub sums_four : (i : ℕ) (s u v w x : Sums) → i + 4 ≤ 508 → SumsAt (take 508 l) i s
-      → u ≡ grown s (get_or l i 0) → v ≡ grown u (get_or l (i + 1) 0) → w ≡ grown v (get_or l (i + 2) 0) → x ≡ grown w (get_or l (i + 3) 0)
-      → SumsAt (take 508 l) (i + 4) x
-  sums_four i s u v w x h p e f g k =
-      let one = sums_more i (i + 1) s u (omega arith) (omega arith) p e in
-      let two = sums_more (i + 1) (i + 2) u v (omega arith) (omega arith) one f in
-      let three = sums_more (i + 2) (i + 3) v w (omega arith) (omega arith) two g in
-      sums_more (i + 3) (i + 4) w x (omega arith) (omega arith) three k
+-- one byte of the piece more
+pub adding_byte : (b piece rest : List ℕ) (size i : ℕ) (s u : Sums) → i < length piece → u ≡ grown s (get_or piece i 0) → Adding b (drop i piece) rest size s → Adding b (drop (i + 1) piece) rest size u
+unfolding sums
+adding_byte b piece rest size i s u h e p =
+    record { four = p.four; whole = p.whole; lead = rw (e, add-one) (rw (drop-cons piece i 0 h) at p.lead) }
 
-  pub sums_end : (i : ℕ) (s : Sums) → 508 ≤ i → SumsAt (take 508 l) i s → s ≡ sums start (take 508 l)
-  unfolding sums
-  sums_end i s h p = rw (drop_of_length-le (take 508 l) {i = i} (rw (length-take-le 508 l n) h)) at p
+pub adding_end : (b rest : List ℕ) (size : ℕ) (s : Sums) → length rest < size → Adding b [] rest size s → s ≡ sums start (take 508 b)
+unfolding sums
+adding_end b [] size s h p = p.lead
+adding_end b (x ∷ rest) size s h p = absurd (omega (arith, p.whole, p.four))
 
 -- ---- one changed byte
 

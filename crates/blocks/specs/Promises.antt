@@ -10,7 +10,7 @@ use Rattle.blocks.specs.Blocks.{word, start, sums, checked, count}
 use Rattle.blocks.specs.Image.{block_rules}
 use Rattle.blocks.specs.Answers.{sums_of, framed_of}
 use Rattle.blocks.specs.declared.check.Sums.{Sums}
-use Rattle.blocks.specs.declared.judge.Framed.{Framed}
+use Rattle.blocks.specs.Answers.{Framed}
 
 abbrev pub WordAtMeets : List ℕ → ℕ → ℕ → Type 0
 WordAtMeets s at r = r ≡ word s at

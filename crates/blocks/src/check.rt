@@ -13,8 +13,8 @@ pub struct Sums(pub u16, pub u16);
 fn grow(s: Sums, byte: u8) -> Sums
     ensures { sums_of result ≡ grown (sums_of s) byte }
 {
-    let a = std::num::wrapping_add_u16(s.0, byte as u16);
-    let b = std::num::wrapping_add_u16(s.1, a);
+    let a = s.0.wrapping_add(u16::from(byte));
+    let b = s.1.wrapping_add(a);
     Sums(a, b)
 }
 
@@ -24,13 +24,10 @@ pub fn add_up(b: &[u8]) -> Sums
     ensures { AddUpMeets b.now result }
 {
     let mut s = Sums(0, 0);
-    let mut i: usize = 0;
-    while i < 508 {
-        s = grow(s, b[i]);
-        s = grow(s, b[i + 1]);
-        s = grow(s, b[i + 2]);
-        s = grow(s, b[i + 3]);
-        i += 4;
+    for four in b[..508].chunks_exact(4) {
+        for &byte in four {
+            s = grow(s, byte);
+        }
     }
     s
 }

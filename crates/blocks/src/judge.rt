@@ -1,84 +1,62 @@
 // The refusals 13, 14 and 15 of an image. They know its length and its blocks, and nothing of the words.
-ghost use Rattle.std.specs.Prelude.{◌≡◌, ◌≤◌};
-ghost use Rattle.trees.specs.Lists.{lowest};
+ghost use Rattle.std.specs.Prelude.{◌≡◌, ◌≤◌, ◌<◌, [], ◌∷◌};
+ghost use Rattle.trees.specs.Rulings.{each, verdict};
+ghost use Rattle.trees.specs.Answers.{judged_of};
 ghost use Rattle.blocks.specs.Blocks.{part, checked, numbered, count};
 ghost use Rattle.blocks.specs.Promises.{JudgeBlocksMeets};
 
-use trees::Refusal;
+use trees::{Refusal, judge_each, refuse};
 
-// How many blocks an image has, or why it is refused.
-#[derive(Clone, Copy)]
-pub enum Framed {
-    Blocks(usize),
-    Refused(Refusal),
+// Is the check of block k that of its bytes? The block is handed on as a part of the image.
+fn sealed_at(image: &[u8], k: usize) -> bool
+    requires { k < count image.now }
+    ensures { result ≡ checked (part image.now k) }
+{
+    let a = 512 * k;
+    crate::check::sealed(&image[a..a + 512])
 }
 
-// The lowest block of n whose check differs, or n.
-fn lowest_unsealed(image: &[u8], n: usize) -> usize
+// Does block k bear its number?
+fn numbered_at(image: &[u8], k: usize) -> bool
+    requires { k < count image.now }
+    ensures { result ≡ numbered k (part image.now k) }
+{
+    usize::from(crate::word::word_at(image, 512 * k)) == k
+}
+
+// 14: the check of each of the n blocks.
+fn judge_checks(image: &[u8], n: usize) -> Result<(), Refusal>
     requires { n ≤ count image.now }
-    ensures { result ≡ lowest (λ k. checked (part image.now k)) n }
+    ensures { judged_of result ≡ verdict (each 14 0 n (λ k. checked (part image.now k)) ∷ []) }
 {
-    let mut k: usize = 0;
-    while k < n {
-        let a = 512 * k;
-        let e = a + 512;
-        if crate::check::sealed(&image[a..e]) {
-            k += 1;
-        } else {
-            return k;
-        }
-    }
-    k
+    judge_each(14, 0, n, |k| sealed_at(image, k))
 }
 
-// The lowest block of n whose number differs, or n.
-fn lowest_misnumbered(image: &[u8], n: usize) -> usize
+// 15: the number of each of the n blocks.
+fn judge_numbers(image: &[u8], n: usize) -> Result<(), Refusal>
     requires { n ≤ count image.now }
-    ensures { result ≡ lowest (λ k. numbered k (part image.now k)) n }
+    ensures { judged_of result ≡ verdict (each 15 0 n (λ k. numbered k (part image.now k)) ∷ []) }
 {
-    let mut k: usize = 0;
-    while k < n {
-        if crate::word::word_at(image, 512 * k) as usize != k {
-            return k;
-        }
-        k += 1;
-    }
-    k
-}
-
-fn refused(number: u16, place: usize) -> Framed
-    ensures { result ≡ Framed.Refused (record { number = number; tree = 0; place = place }) }
-{
-    Framed::Refused(Refusal {
-        number,
-        tree: 0,
-        place,
-    })
+    judge_each(15, 0, n, |k| numbered_at(image, k))
 }
 
 // 13, 14 and 15 of an image of which at most `limit` blocks are allowed.
 #[tactic(auto, using(crate::proofs::Judging::too_long))]
-pub fn judge_blocks(image: &[u8], limit: usize) -> Framed
+pub fn judge_blocks(image: &[u8], limit: usize) -> Result<usize, Refusal>
     ensures { JudgeBlocksMeets image.now limit result }
 {
     let m = image.len();
     let n = m / 512;
     if m == 0 {
-        return refused(13, 0);
+        return Err(refuse(13, 0, 0));
     }
     if m % 512 != 0 {
-        return refused(13, 0);
+        return Err(refuse(13, 0, 0));
     }
     if limit < n {
-        return refused(13, 0);
+        return Err(refuse(13, 0, 0));
     }
-    let k = lowest_unsealed(image, n);
-    if k != n {
-        return refused(14, k);
-    }
-    let k = lowest_misnumbered(image, n);
-    if k != n {
-        return refused(15, k);
-    }
-    Framed::Blocks(n)
+    judge_checks(image, n)?;
+    judge_numbers(image, n)?;
+    Ok(n)
 }

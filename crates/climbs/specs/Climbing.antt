@@ -4,17 +4,13 @@
 --   steps_to_lem sp gp places n == the sum of the steps of the first n gene nodes
 --   Climb par low high   <-> what a climb needs: a tree, and low at or below high
 --   Climbable sp gp places <-> what the pass needs: each place at or below the parent's, and a sum that fits
---   Climbed .. r         <-> r is the sums over all gene nodes
---   Lossy s              <-> the sums are small, and the climbs enough for two less at each speciation
 -- proofs/Counting.antt shows that these sums are what 01 counts of a legal history. None of it asks how nodes are numbered. Assumes
 -- nothing.
-use Rattle.std.specs.Prelude.{ℕ, ◌-◌, ◌*◌, ◌≤◌, ◌<◌, ◌≡◌, List, length, get_or, ltb}
+use Rattle.std.specs.Prelude.{ℕ, ◌-◌, ◌≤◌, ◌<◌, List, length, get_or, ltb}
 use Rattle.trees.specs.Lists.{range, total, pick}
 use Rattle.trees.specs.Trees.{Below, depth}
 use Rattle.trees.specs.Sound.{Treelike}
 use Rattle.histories.specs.Histories.{every_node}
-use Rattle.counts.specs.Sums.{kinds_to}
-use Rattle.climbs.specs.declared.Sums.{Sums}
 
 abbrev pub steps : List ℕ → ℕ → ℕ → ℕ
 steps par low high = depth par every_node low - depth par every_node high
@@ -35,15 +31,3 @@ pub record Climbable (sp gp places : List ℕ) : Type 0 where
   pub room : length gp ≤ length places
   pub under : (c : ℕ) → c < length gp → get_or gp c 0 < length gp → Below sp (get_or places (get_or gp c 0) 0) (get_or places c 0)
   pub steps_few : steps_to_lem sp gp places (length gp) ≤ 2093058
-
-pub record Climbed (sp gp places labels : List ℕ) (r : Sums) : Type 0 where
-  pub duplications : r.duplications ≡ kinds_to labels 2 (length gp)
-  pub speciations : r.speciations ≡ kinds_to labels 1 (length gp)
-  pub climbs : r.climbs ≡ steps_to_lem sp gp places (length gp)
-  pub duplications_few : r.duplications ≤ 2047
-  pub speciations_few : r.speciations ≤ 2047
-
-pub record Lossy (s : Sums) : Type 0 where
-  pub duplications_few : s.duplications ≤ 2047
-  pub speciations_few : s.speciations ≤ 2047
-  pub enough : 2 * s.speciations ≤ s.climbs

@@ -2,8 +2,9 @@
 --   CountClimbsMeets .. r <-> r has the duplications, losses, speciations and climbs that 01 counts of the history
 -- Assumes nothing.
 use Rattle.std.specs.Prelude.{ℕ, List}
+use Rattle.trees.specs.Tables.{Pair}
 use Rattle.counts.specs.Promises.{CountHistoryMeets}
 use Rattle.counts.specs.declared.Tally.{Tally}
 
-abbrev pub CountClimbsMeets : List ℕ → List ℕ → List ℕ → List ℕ → List ℕ → List ℕ → Tally → Type 0
-CountClimbsMeets sp st gp gt places labels r = CountHistoryMeets sp st gp gt places labels r
+abbrev pub CountClimbsMeets : Pair → List ℕ → List ℕ → Tally → Type 0
+CountClimbsMeets w places labels r = CountHistoryMeets w places labels r

@@ -5,21 +5,41 @@
 mod ask;
 mod judge;
 
-ghost use Rattle.trees.specs.Tables.{pair};
+ghost use Rattle.std.specs.Prelude.{◌≡◌};
+ghost use Rattle.trees.specs.Tables.{pair, pair_of};
 ghost use Rattle.collector.specs.Promises.{PanheronRefusalMeets, PanheronTreeMeets, PanheronPlaceMeets, PanheronDuplicationsMeets, PanheronLossesMeets, PanheronHistoryMeets, PanheronHistoryTreeMeets, PanheronHistoryPlaceMeets};
 
-use loading::Loaded;
-use trees::Judged;
+use trees::{Tree, Trees};
+
+// The tables of two trees, handed in one by one.
+fn trees<'a>(
+    species_parents: &'a [u16],
+    species_taxa: &'a [u32],
+    gene_parents: &'a [u16],
+    gene_taxa: &'a [u32],
+) -> Trees<'a>
+    ensures { pair_of result ≡ pair species_parents.now species_taxa.now gene_parents.now gene_taxa.now }
+{
+    Trees {
+        species: Tree {
+            parents: species_parents,
+            taxa: species_taxa,
+        },
+        genes: Tree {
+            parents: gene_parents,
+            taxa: gene_taxa,
+        },
+    }
+}
 
 // The number of the refusal, or 0.
 #[unsafe(no_mangle)]
 pub extern "C" fn panheron_refusal(image: &[u8], parents: &[u8], taxa: &[u8]) -> u32
     ensures { PanheronRefusalMeets image.now parents.now taxa.now result }
 {
-    let answer = judge::refusal(image, parents, taxa);
-    match answer {
-        Judged::Sound => 0,
-        Judged::Refused(r) => r.number as u32,
+    match judge::refusal(image, parents, taxa) {
+        Ok(()) => 0,
+        Err(r) => u32::from(r.number),
     }
 }
 
@@ -28,10 +48,9 @@ pub extern "C" fn panheron_refusal(image: &[u8], parents: &[u8], taxa: &[u8]) ->
 pub extern "C" fn panheron_tree(image: &[u8], parents: &[u8], taxa: &[u8]) -> u32
     ensures { PanheronTreeMeets image.now parents.now taxa.now result }
 {
-    let answer = judge::refusal(image, parents, taxa);
-    match answer {
-        Judged::Sound => 0,
-        Judged::Refused(r) => r.tree as u32,
+    match judge::refusal(image, parents, taxa) {
+        Ok(()) => 0,
+        Err(r) => u32::from(r.tree),
     }
 }
 
@@ -40,10 +59,9 @@ pub extern "C" fn panheron_tree(image: &[u8], parents: &[u8], taxa: &[u8]) -> u3
 pub extern "C" fn panheron_place(image: &[u8], parents: &[u8], taxa: &[u8]) -> u32
     ensures { PanheronPlaceMeets image.now parents.now taxa.now result }
 {
-    let answer = judge::refusal(image, parents, taxa);
-    match answer {
-        Judged::Sound => 0,
-        Judged::Refused(r) => r.place as u32,
+    match judge::refusal(image, parents, taxa) {
+        Ok(()) => 0,
+        Err(r) => r.place as u32,
     }
 }
 
@@ -52,11 +70,7 @@ pub extern "C" fn panheron_place(image: &[u8], parents: &[u8], taxa: &[u8]) -> u
 pub extern "C" fn panheron_duplications(image: &[u8], parents: &[u8], taxa: &[u8]) -> u32
     ensures { PanheronDuplicationsMeets image.now parents.now taxa.now result }
 {
-    let answer = ask::ask(image, parents, taxa);
-    match answer {
-        Loaded::Family(c) => c.duplications,
-        Loaded::Refused(_) => 0,
-    }
+    ask::ask(image, parents, taxa).map_or(0, |c| c.duplications)
 }
 
 // The losses of the stored history, or 0.
@@ -64,11 +78,7 @@ pub extern "C" fn panheron_duplications(image: &[u8], parents: &[u8], taxa: &[u8
 pub extern "C" fn panheron_losses(image: &[u8], parents: &[u8], taxa: &[u8]) -> u32
     ensures { PanheronLossesMeets image.now parents.now taxa.now result }
 {
-    let answer = ask::ask(image, parents, taxa);
-    match answer {
-        Loaded::Family(c) => c.losses,
-        Loaded::Refused(_) => 0,
-    }
+    ask::ask(image, parents, taxa).map_or(0, |c| c.losses)
 }
 
 // The least history: the number of the refusal, and then all three lent tables are as they were; or 0, with its places and labels and
@@ -85,15 +95,8 @@ pub extern "C" fn panheron_history(
 ) -> u32
     ensures { PanheronHistoryMeets (pair species_parents.now species_taxa.now gene_parents.now gene_taxa.now) places.old labels.old counts.old result places.new labels.new counts.new }
 {
-    rack::history(
-        species_parents,
-        species_taxa,
-        gene_parents,
-        gene_taxa,
-        places,
-        labels,
-        counts,
-    )
+    let tables = trees(species_parents, species_taxa, gene_parents, gene_taxa);
+    rack::history(&tables, places, labels, counts)
 }
 
 // The tree of the refusal of these four tables (1 species, 2 gene), or 0.
@@ -106,7 +109,7 @@ pub extern "C" fn panheron_history_tree(
 ) -> u32
     ensures { PanheronHistoryTreeMeets (pair species_parents.now species_taxa.now gene_parents.now gene_taxa.now) result }
 {
-    rack::history_tree(species_parents, species_taxa, gene_parents, gene_taxa)
+    rack::history_tree(&trees(species_parents, species_taxa, gene_parents, gene_taxa))
 }
 
 // The place of the same refusal: a node of that tree, or 0.
@@ -119,5 +122,5 @@ pub extern "C" fn panheron_history_place(
 ) -> u32
     ensures { PanheronHistoryPlaceMeets (pair species_parents.now species_taxa.now gene_parents.now gene_taxa.now) result }
 {
-    rack::history_place(species_parents, species_taxa, gene_parents, gene_taxa)
+    rack::history_place(&trees(species_parents, species_taxa, gene_parents, gene_taxa))
 }

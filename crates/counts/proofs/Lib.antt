@@ -1,3 +1,4 @@
 pub mod Deepening
+pub mod Adding
 pub mod Tallying
 pub mod One

@@ -3,7 +3,7 @@ use Prim.Native.Nat.{ℕ}
 use mathlib.Core.Path.{◌≡◌, ap}
 use mathlib.Core.List.{List}
 use Rattle.trees.specs.One.{Single}
-use Rattle.trees.specs.Tables.{pair}
+use Rattle.trees.specs.Tables.{Pair}
 use Rattle.trees.proofs.One.{single_view}
 use Rattle.histories.specs.Histories.{told}
 use Rattle.counts.specs.Tallies.{Totals, tallied_of, history_tally}
@@ -13,5 +13,5 @@ use Rattle.counts.specs.declared.Tally.{Tally}
 tally_one : (a b : Tally) → tallied_of a ≡ tallied_of b → a ≡ b
 tally_one a b e = ap (λ (c : Totals). record { duplications = c.duplications; losses = c.losses; speciations = c.speciations; climbs = c.climbs }) e
 
-pub count_history_one : (sp st gp gt places labels : List ℕ) → Single (CountHistoryMeets sp st gp gt places labels)
-count_history_one sp st gp gt places labels = single_view tallied_of tally_one (history_tally (pair sp st gp gt) (told places labels))
+pub count_history_one : (w : Pair) (places labels : List ℕ) → Single (CountHistoryMeets w places labels)
+count_history_one w places labels = single_view tallied_of tally_one (history_tally w (told places labels))

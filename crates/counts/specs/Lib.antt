@@ -1,4 +1,5 @@
 pub mod Tallies
 pub mod Sums
+pub mod Adding
 pub mod Noting
 pub mod Promises

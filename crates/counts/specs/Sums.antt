@@ -1,16 +1,13 @@
 -- Private to the pass over the gene nodes: its sums by a table of depths, and what they need; nothing of it is part of a promise.
 --   Deep par out         <-> out has the depth of each node of par
 --   steps_of depths gp places c == the steps from the place of c up to its parent's place, by the depths; 0 at the root
---   kinds_to labels k n, steps_to_lem depths gp places n == how many of the first n gene nodes have label k; the sum of their steps
+--   steps_to_lem depths gp places n == the sum of the steps of the first n gene nodes
 --   Step .., Countable .. <-> what the sums need: entries in range, and no step that would count below 0
---   Summed .. r          <-> r is the sums over all gene nodes
---   Lossy s              <-> the sums are small, and the steps enough for two less at each speciation
 -- proofs/Tallying.antt shows that these sums are what 01 counts of a legal history. Assumes nothing.
-use Rattle.std.specs.Prelude.{ℕ, ◌-◌, ◌*◌, ◌≤◌, ◌<◌, ◌≡◌, List, length, get_or, eqb, ltb}
-use Rattle.trees.specs.Lists.{range, total, one, pick}
+use Rattle.std.specs.Prelude.{ℕ, ◌-◌, ◌≤◌, ◌<◌, ◌≡◌, List, length, get_or, ltb}
+use Rattle.trees.specs.Lists.{range, total, pick}
 use Rattle.trees.specs.Trees.{depth}
 use Rattle.histories.specs.Histories.{every_node}
-use Rattle.counts.specs.declared.Sums.{Sums}
 
 pub record Deep (par out : List ℕ) : Type 0 where
   pub size : length out ≡ 2047
@@ -20,9 +17,6 @@ pub record Deep (par out : List ℕ) : Type 0 where
 unfoldable pub steps_of : List ℕ → List ℕ → List ℕ → ℕ → ℕ
 steps_of depths gp places c =
     pick (ltb (get_or gp c 0) (length gp)) (get_or depths (get_or places c 0) 0 - get_or depths (get_or places (get_or gp c 0) 0) 0) 0
-
-abbrev pub kinds_to : List ℕ → ℕ → ℕ → ℕ
-kinds_to labels k n = total (λ g. one (eqb (get_or labels g 0) k)) (range 0 n)
 
 abbrev pub steps_to_lem : List ℕ → List ℕ → List ℕ → ℕ → ℕ
 steps_to_lem depths gp places n = total (steps_of depths gp places) (range 0 n)
@@ -42,15 +36,3 @@ pub record Countable (depths gp places labels : List ℕ) : Type 0 where
   pub place_in : (c : ℕ) → c < length gp → get_or places c 0 < length depths
   pub falls : (c : ℕ) → c < length gp → get_or gp c 0 < length gp → get_or depths (get_or places (get_or gp c 0) 0) 0 ≤ get_or depths (get_or places c 0) 0
   pub steps_few : steps_to_lem depths gp places (length gp) ≤ 2093058
-
-pub record Summed (depths gp places labels : List ℕ) (r : Sums) : Type 0 where
-  pub duplications : r.duplications ≡ kinds_to labels 2 (length gp)
-  pub speciations : r.speciations ≡ kinds_to labels 1 (length gp)
-  pub climbs : r.climbs ≡ steps_to_lem depths gp places (length gp)
-  pub duplications_few : r.duplications ≤ 2047
-  pub speciations_few : r.speciations ≤ 2047
-
-pub record Lossy (s : Sums) : Type 0 where
-  pub duplications_few : s.duplications ≤ 2047
-  pub speciations_few : s.speciations ≤ 2047
-  pub enough : 2 * s.speciations ≤ s.climbs

@@ -3,14 +3,14 @@
 
 mod depths;
 
-ghost use Rattle.std.specs.Prelude.{◌≡◌, ◌-◌, ◌*◌, ◌≤◌, ◌<◌, length, get_or, eqb};
-ghost use Rattle.trees.specs.Lists.{one};
-ghost use Rattle.trees.specs.Tables.{pair};
+ghost use Rattle.std.specs.Prelude.{◌≡◌, ℕ, ◌<◌, length, get_or};
+ghost use Rattle.trees.specs.Tables.{pair_of};
 ghost use Rattle.counts.specs.Tallies.{Story};
-ghost use Rattle.counts.specs.Sums.{steps_of, Step, Countable, Lossy, Summed};
+ghost use Rattle.counts.specs.Sums.{steps_of, Step};
+ghost use Rattle.counts.specs.Adding.{Addable, Added};
 ghost use Rattle.counts.specs.Promises.{CountHistoryMeets};
 
-use trees::{GeneNode, SpeciesNode};
+use trees::{GeneNode, SpeciesNode, Trees};
 
 #[derive(Clone, Copy)]
 pub struct Tally {
@@ -18,13 +18,6 @@ pub struct Tally {
     pub losses: u32,
     pub speciations: u32,
     pub climbs: u32,
-}
-
-// 1 if the two numbers are the same, else 0.
-fn same(a: u16, b: u16) -> u32
-    ensures { (result ≡ one (eqb a b)) × (result ≤ 1) }
-{
-    if a == b { 1 } else { 0 }
 }
 
 // The place of a gene node.
@@ -46,6 +39,7 @@ fn depth_of(depths: &[u16], place: SpeciesNode) -> u16
 }
 
 // The steps from the place of a gene node up to its parent's place; none at the root.
+#[tactic(auto, using(crate::proofs::Tallying::step_up, crate::proofs::Tallying::step_root))]
 fn steps_of(depths: &[u16], gene_parents: &[u16], places: &[u16], node: GeneNode) -> u32
     requires { Step depths.now gene_parents.now places.now node.0 }
     ensures { result ≡ steps_of depths.now gene_parents.now places.now node.0 }
@@ -60,64 +54,37 @@ fn steps_of(depths: &[u16], gene_parents: &[u16], places: &[u16], node: GeneNode
     (low - high) as u32
 }
 
-// What one pass over the gene nodes adds up.
-#[derive(Clone, Copy)]
-struct Sums {
-    duplications: u32,
-    speciations: u32,
-    climbs: u32,
-}
-
-fn add_up(depths: &[u16], gene_parents: &[u16], places: &[u16], labels: &[u16]) -> Sums
-    requires { Countable depths.now gene_parents.now places.now labels.now }
-    ensures { Summed depths.now gene_parents.now places.now labels.now result }
+// What the gene nodes with these labels count, if `steps` tells how many steps it is from a node's place up to its parent's place, none
+// at the root. The losses: each of the two edges down from a speciation counts one less than its steps.
+pub fn add_up<F: Fn(GeneNode) -> u32>(labels: &[u16], steps: F) -> Tally
+    requires { (s : ℕ → ℕ) × Addable (F.pre steps) (F.post steps) labels.now s }
+    ensures { (s : ℕ → ℕ) → Addable (F.pre steps) (F.post steps) labels.now s → Added labels.now s result }
 {
-    let q = gene_parents.len();
     let mut duplications: u32 = 0;
     let mut speciations: u32 = 0;
     let mut climbs: u32 = 0;
-    let mut c: usize = 0;
-    while c < q {
-        let kind = labels[c];
-        duplications += same(kind, 2);
-        speciations += same(kind, 1);
-        climbs += steps_of(depths, gene_parents, places, GeneNode(c));
-        c += 1;
+    for (c, &kind) in labels.iter().enumerate() {
+        duplications += u32::from(kind == 2);
+        speciations += u32::from(kind == 1);
+        climbs += steps(GeneNode(c));
     }
-    Sums {
+    Tally {
         duplications,
+        losses: climbs - 2 * speciations,
         speciations,
         climbs,
     }
 }
 
-// The losses: each of the two edges down from a speciation counts one less than its steps.
-fn losses_of(sums: Sums) -> u32
-    requires { Lossy sums }
-    ensures { result ≡ sums.climbs - 2 * sums.speciations }
-{
-    sums.climbs - 2 * sums.speciations
-}
-
 // What a legal history of two sound trees counts. The one table on the stack is that of the depths, 4,094 bytes.
-pub fn count_history(
-    species_parents: &[u16],
-    species_taxa: &[u32],
-    gene_parents: &[u16],
-    gene_taxa: &[u32],
-    places: &[u16],
-    labels: &[u16],
-) -> Tally
-    requires { Story (pair species_parents.now species_taxa.now gene_parents.now gene_taxa.now) places.now labels.now }
-    ensures { CountHistoryMeets species_parents.now species_taxa.now gene_parents.now gene_taxa.now places.now labels.now result }
+pub fn count_history(trees: &Trees<'_>, places: &[u16], labels: &[u16]) -> Tally
+    requires { Story (pair_of trees.now) places.now labels.now }
+    ensures { CountHistoryMeets (pair_of trees.now) places.now labels.now result }
 {
     let mut depths = [65535u16; 2047];
-    depths::fill_depths(species_parents, &mut depths);
-    let sums = add_up(&depths, gene_parents, places, labels);
-    Tally {
-        duplications: sums.duplications,
-        losses: losses_of(sums),
-        speciations: sums.speciations,
-        climbs: sums.climbs,
-    }
+    depths::fill_depths(trees.species.parents, &mut depths);
+    let gene_parents = trees.genes.parents;
+    add_up(&labels[..gene_parents.len()], |node| {
+        steps_of(&depths, gene_parents, places, node)
+    })
 }

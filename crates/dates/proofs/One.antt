@@ -1,4 +1,5 @@
 -- One answer only: any two results that meet a contract of this crate are equal. Assumes nothing.
+use Rattle.std.specs.Prelude.{Ok, Err}
 use Prim.Native.Nat.{ℕ}
 use mathlib.Core.Path.{◌≡◌, refl, ap}
 use Rattle.trees.specs.One.{Single}
@@ -12,8 +13,7 @@ use Rattle.dates.specs.Answers.{dated_of, dating_of}
 use Rattle.dates.specs.Promises.{DateMeets}
 use Rattle.dates.specs.declared.Dating.{Dating}
 use Rattle.dates.specs.declared.Dating.TheVariants.{NotDuplication, From, Between}
-use Rattle.dates.specs.declared.DatingAnswer.{DatingAnswer}
-use Rattle.dates.specs.declared.DatingAnswer.TheVariants as dating
+use Rattle.dates.specs.Answers.{DatingAnswer}
 
 pub dated_same : (a b : Dating) → dated_of a ≡ dated_of b → a ≡ b
 dated_same NotDuplication NotDuplication e = refl
@@ -30,10 +30,10 @@ dated_same (Between a c) (Between b d) e =
     rw (node_one a b p, node_one c d q)
 
 pub dating_one : (a b : DatingAnswer) → dating_of a ≡ dating_of b → a ≡ b
-dating_one (dating.Dated a) (dating.Dated b) e = let q : dated_of a ≡ dated_of b = cc in ap dating.Dated (dated_same a b q)
-dating_one (dating.Dated a) (dating.Refused s) e = clash (cc)
-dating_one (dating.Refused r) (dating.Dated b) e = clash (cc)
-dating_one (dating.Refused r) (dating.Refused s) e = ap dating.Refused (refusal_one r s e)
+dating_one (Ok a) (Ok b) e = let q : dated_of a ≡ dated_of b = cc in ap Ok (dated_same a b q)
+dating_one (Ok a) (Err s) e = clash (cc)
+dating_one (Err r) (Ok b) e = clash (cc)
+dating_one (Err r) (Err s) e = ap Err (refusal_one r s e)
 
 pub date_one : (w : Pair) (v : ℕ) → Single (DateMeets w v)
 date_one w v = single_view dating_of dating_one (dating_ruling w v)

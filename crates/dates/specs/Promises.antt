@@ -5,7 +5,7 @@ use Rattle.std.specs.Prelude.{ℕ, ◌≡◌}
 use Rattle.trees.specs.Tables.{Pair}
 use Rattle.histories.specs.Rules.{dating_ruling}
 use Rattle.dates.specs.Answers.{dating_of}
-use Rattle.dates.specs.declared.DatingAnswer.{DatingAnswer}
+use Rattle.dates.specs.Answers.{DatingAnswer}
 
 abbrev pub DateMeets : Pair → ℕ → DatingAnswer → Type 0
 DateMeets w v r = dating_of r ≡ dating_ruling w v

@@ -2,12 +2,12 @@
 #![tactic(auto)]
 
 ghost use Rattle.std.specs.Prelude.{◌≡◌};
-ghost use Rattle.trees.specs.Tables.{Pair, pair};
+ghost use Rattle.trees.specs.Tables.{Pair, pair_of};
 ghost use Rattle.histories.specs.Dating.{dated};
 ghost use Rattle.dates.specs.Answers.{Datable, Told, dated_of};
 ghost use Rattle.dates.specs.Promises.{DateMeets};
 
-use trees::{GeneNode, Judged, Refusal, SpeciesNode, refuse};
+use trees::{GeneNode, Refusal, SpeciesNode, Trees, refuse};
 
 // When a gene node was duplicated. Each kind of answer carries only its own numbers.
 #[derive(Clone, Copy)]
@@ -15,12 +15,6 @@ pub enum Dating {
     NotDuplication,
     From(SpeciesNode),
     Between(SpeciesNode, SpeciesNode),
-}
-
-#[derive(Clone, Copy)]
-pub enum DatingAnswer {
-    Dated(Dating),
-    Refused(Refusal),
 }
 
 // When the gene node was duplicated, by the places and labels of the least history.
@@ -47,31 +41,16 @@ fn date_by(gene_parents: &[u16], places: &[u16], labels: &[u16], node: GeneNode)
 
 // When the gene node was duplicated. Refusals: the trees' own, then 19. The least history is worked out in two tables on the
 // stack, 8,188 bytes.
-pub fn date(
-    species_parents: &[u16],
-    species_taxa: &[u32],
-    gene_parents: &[u16],
-    gene_taxa: &[u32],
-    node: GeneNode,
-) -> DatingAnswer
-    ensures { DateMeets (pair species_parents.now species_taxa.now gene_parents.now gene_taxa.now) node.0 result }
+pub fn date(trees: &Trees<'_>, node: GeneNode) -> Result<Dating, Refusal>
+    ensures { DateMeets (pair_of trees.now) node.0 result }
 {
-    let judged = judges::judge_pair(species_parents, species_taxa, gene_parents, gene_taxa);
-    if let Judged::Refused(r) = judged {
-        return DatingAnswer::Refused(r);
-    }
-    if gene_parents.len() <= node.0 {
-        return DatingAnswer::Refused(refuse(19, 2, 0));
+    judges::judge_pair(trees)?;
+    let q = trees.genes.parents.len();
+    if q <= node.0 {
+        return Err(refuse(19, 2, 0));
     }
     let mut places = [0u16; 2047];
     let mut labels = [0u16; 2047];
-    fills::fill(
-        species_parents,
-        species_taxa,
-        gene_parents,
-        gene_taxa,
-        &mut places,
-        &mut labels,
-    );
-    DatingAnswer::Dated(date_by(gene_parents, &places, &labels, node))
+    fills::fill(trees, &mut places, &mut labels);
+    Ok(date_by(trees.genes.parents, &places, &labels, node))
 }

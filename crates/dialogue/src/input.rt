@@ -1,17 +1,18 @@
 // What is read: decimal numbers, separated by spaces or line feeds, and tables, a table being its length and then its entries.
-ghost use Rattle.std.specs.Prelude.{◌≤◌};
-ghost use Rattle.io.specs.Counts.{IsPrefixLen};
+ghost use Rattle.std.specs.Prelude.{◌≤◌, ◌≡◌};
+ghost use Rattle.dialogue.specs.Counts.{IsCount};
+ghost use Rattle.dialogue.specs.Spoiled.{NoneRead};
 
+use std::num::TryFromIntError;
 use talks::{Memory, Talk, spoil};
 
 // The number of standard input.
 const STDIN_FILENO: i32 = 0;
 
-// A number, or 0 where the talk is spoiled; `over` if only blanks were left.
+// A number, or 0 where the talk is spoiled.
 #[derive(Clone, Copy)]
 pub struct Found {
     pub value: u64,
-    pub over: bool,
     pub talk: Talk,
 }
 
@@ -22,155 +23,129 @@ pub struct Table {
     pub talk: Talk,
 }
 
-// The next byte, which stays the next one; `over` if there is none.
+// The next byte, which stays the next one, if there is one.
 #[derive(Clone, Copy)]
 pub(crate) struct Seen {
-    pub byte: u8,
-    pub over: bool,
+    pub byte: Option<u8>,
     pub talk: Talk,
 }
 
 // Reads into the first part; the answer is how many bytes came.
-fn fill(memory: &mut [u8]) -> usize {
-    if memory.len() < 65536 {
-        return 0;
-    }
+fn fill(memory: &mut Memory) -> usize {
     io::read_full(STDIN_FILENO, &mut memory[..65536])
 }
 
 // The next byte; more is read where all has been looked at.
 fn peek(memory: &mut Memory, talk: Talk) -> Seen {
     let at = talk.at;
-    let end = talk.end;
-    if at < end {
-        if at < 65536 {
-            return Seen {
-                byte: memory[at],
-                over: false,
-                talk,
-            };
-        }
+    if at < talk.end && at < 65536 {
+        return Seen {
+            byte: Some(memory[at]),
+            talk,
+        };
     }
     let n = fill(memory);
-    Seen {
-        byte: memory[0],
-        over: n == 0,
-        talk: Talk {
-            at: 0,
-            end: n,
-            used: talk.used,
-            more: talk.more,
-        },
-    }
+    let byte = if n == 0 { None } else { Some(memory[0]) };
+    let talk = Talk {
+        at: 0,
+        end: n,
+        ..talk
+    };
+    Seen { byte, talk }
 }
 
 // Past the next byte.
 fn past(talk: Talk) -> Talk {
     let at = talk.at;
-    let end = talk.end;
-    if at < end {
-        return Talk {
-            at: at + 1,
-            end,
-            used: talk.used,
-            more: talk.more,
-        };
+    if at < talk.end {
+        return Talk { at: at + 1, ..talk };
     }
     talk
 }
 
 fn blank(b: u8) -> bool {
-    b == 32 || b == 10
+    matches!(b, b' ' | b'\n')
 }
 
-// How far a number has been read. The phase is 0 before its digits and 1 in them; 2 where it is whole, 3 where only blanks were left, and 4 where it is none or is over 18,446,744,073,709,551,609.
+// How far a number has been read: not to its digits, or in them, with what they spell so far; then it is whole, or only blanks were left,
+// or it is none or is over 18,446,744,073,709,551,609.
 #[derive(Clone, Copy)]
-pub(crate) struct Scan {
-    pub value: u64,
-    pub phase: u8,
+pub(crate) enum Scan {
+    Before,
+    Digits(u64),
+    Whole(u64),
+    Over,
+    Wrong,
 }
 
+// With a byte more that is no blank.
 fn with_digit(value: u64, b: u8) -> Scan {
-    if 48 <= b {
-        if b <= 57 {
-            if value <= 1844674407370955160 {
-                return Scan {
-                    value: 10 * value + ((b - 48) as u64),
-                    phase: 1,
-                };
-            }
-        }
+    if b.is_ascii_digit() && value <= 1844674407370955160 {
+        return Scan::Digits(10 * value + u64::from(b - b'0'));
     }
-    Scan { value: 0, phase: 4 }
-}
-
-// Where the number ends, in digits or before them.
-fn ended(scan: Scan, over: bool) -> Scan {
-    if scan.phase == 1 {
-        return Scan {
-            value: scan.value,
-            phase: 2,
-        };
-    }
-    if over {
-        return Scan { value: 0, phase: 3 };
-    }
-    scan
+    Scan::Wrong
 }
 
 // With the next byte, or the end.
-fn with_next(scan: Scan, over: bool, b: u8) -> Scan {
-    if over || blank(b) {
-        return ended(scan, over);
+fn with_next(scan: Scan, next: Option<u8>) -> Scan {
+    match (scan, next) {
+        (Scan::Before, None) => Scan::Over,
+        (Scan::Before, Some(b)) if blank(b) => Scan::Before,
+        (Scan::Before, Some(b)) => with_digit(0, b),
+        (Scan::Digits(value), Some(b)) if !blank(b) => with_digit(value, b),
+        (Scan::Digits(value), _) => Scan::Whole(value),
+        (done, _) => done,
     }
-    with_digit(scan.value, b)
 }
 
 // Reads on until the number is done. A text has fewer bytes than the loop has turns.
-fn scan_on(memory: &mut Memory, from: Talk) -> Found {
+fn scan_on(memory: &mut Memory, from: Talk) -> Option<Found> {
     let mut talk = from;
-    let mut scan = Scan { value: 0, phase: 0 };
-    let mut left: usize = 1099511627776;
-    while 0 < left {
+    let mut scan = Scan::Before;
+    for _ in 0..1099511627776u64 {
         let seen = peek(memory, talk);
-        scan = with_next(scan, seen.over, seen.byte);
+        scan = with_next(scan, seen.byte);
         talk = seen.talk;
-        if 2 <= scan.phase {
+        if !matches!(scan, Scan::Before | Scan::Digits(_)) {
             break;
         }
         talk = past(talk);
-        left -= 1;
     }
     judge(scan, talk)
 }
 
-// What was found: all but a whole number spoils the talk.
-fn judge(scan: Scan, talk: Talk) -> Found {
-    let phase = scan.phase;
-    if phase == 2 {
-        return Found {
-            value: scan.value,
-            over: false,
-            talk,
-        };
+// What was found, or none if only blanks were left. What is no number spoils the talk.
+fn judge(scan: Scan, talk: Talk) -> Option<Found> {
+    match scan {
+        Scan::Whole(value) => Some(Found { value, talk }),
+        Scan::Over => None,
+        _ => Some(spoiled(talk)),
     }
+}
+
+// A number that can't be read, and the talk spoiled by it.
+fn spoiled(talk: Talk) -> Found
+    ensures { result.value ≡ 0 }
+{
     Found {
         value: 0,
-        over: phase == 3,
         talk: spoil(talk),
     }
 }
 
-// The next number.
-pub fn number(memory: &mut Memory, talk: Talk) -> Found {
+// The next number, or none if only blanks are left. Of a spoiled talk it is 0, and the talk is the same.
+pub fn number_if_any(memory: &mut Memory, talk: Talk) -> Option<Found>
+    ensures { NoneRead talk result }
+{
     if talk.more {
         return scan_on(memory, talk);
     }
-    Found {
-        value: 0,
-        over: false,
-        talk,
-    }
+    Some(Found { value: 0, talk })
+}
+
+// The next number; the end spoils the talk.
+pub fn number(memory: &mut Memory, talk: Talk) -> Found {
+    number_if_any(memory, talk).unwrap_or(spoiled(talk))
 }
 
 // A number of at most `most`; another one spoils the talk, as the end does.
@@ -178,73 +153,30 @@ pub fn small(memory: &mut Memory, talk: Talk, most: u64) -> Found
     ensures { result.value ≤ most }
 {
     let found = number(memory, talk);
-    let value = found.value;
-    if value <= most {
+    if found.value <= most {
         return found;
     }
-    Found {
-        value: 0,
-        over: false,
-        talk: spoil(found.talk),
-    }
+    spoiled(found.talk)
 }
 
-// A table of 16-bit entries into the first places of `out`.
-pub(crate) fn words(memory: &mut Memory, talk: Talk, out: &mut [u16]) -> Table
-    ensures { IsPrefixLen result.count out.new }
+// A table into the first places of `out`. An entry that `T` has no room for spoils the talk.
+pub fn read_table<T: Copy + TryFrom<u64, Error = TryFromIntError>>(
+    memory: &mut Memory,
+    talk: Talk,
+    out: &mut [T],
+) -> Table
+    ensures { IsCount result.count out.new }
 {
     let head = small(memory, talk, out.len() as u64);
-    let n = head.value as usize;
-    let mut next = head.talk;
-    let mut k: usize = 0;
-    while k < n {
-        let entry = small(memory, next, 65535);
-        out[k] = entry.value as u16;
-        next = entry.talk;
-        k += 1;
+    let count = head.value as usize;
+    let mut talk = head.talk;
+    for place in out[..count].iter_mut() {
+        let found = number(memory, talk);
+        talk = found.talk;
+        match T::try_from(found.value) {
+            Ok(entry) => *place = entry,
+            Err(_) => talk = spoil(talk),
+        }
     }
-    Table {
-        count: n,
-        talk: next,
-    }
-}
-
-// A table of 32-bit entries into the first places of `out`.
-pub(crate) fn longs(memory: &mut Memory, talk: Talk, out: &mut [u32]) -> Table
-    ensures { IsPrefixLen result.count out.new }
-{
-    let head = small(memory, talk, out.len() as u64);
-    let n = head.value as usize;
-    let mut next = head.talk;
-    let mut k: usize = 0;
-    while k < n {
-        let entry = small(memory, next, 4294967295);
-        out[k] = entry.value as u32;
-        next = entry.talk;
-        k += 1;
-    }
-    Table {
-        count: n,
-        talk: next,
-    }
-}
-
-// A table of bytes into the first places of `out`.
-pub(crate) fn bytes(memory: &mut Memory, talk: Talk, out: &mut [u8]) -> Table
-    ensures { IsPrefixLen result.count out.new }
-{
-    let head = small(memory, talk, out.len() as u64);
-    let n = head.value as usize;
-    let mut next = head.talk;
-    let mut k: usize = 0;
-    while k < n {
-        let entry = small(memory, next, 255);
-        out[k] = entry.value as u8;
-        next = entry.talk;
-        k += 1;
-    }
-    Table {
-        count: n,
-        talk: next,
-    }
+    Table { count, talk }
 }

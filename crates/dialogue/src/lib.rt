@@ -5,5 +5,5 @@
 mod input;
 mod tables;
 
-pub use input::{Found, Table, number, small};
-pub use tables::{Tables, byte_tables, history, image, tree};
+pub use input::{Found, Table, number, number_if_any, read_table, small};
+pub use tables::{Tables, read_tables};

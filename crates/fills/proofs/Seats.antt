@@ -1,5 +1,6 @@
 -- The settling of the gene leaves: a place that carries a leaf's taxon is its home. Of the rounds nothing is shown but that they write
 -- to gene nodes alone. Assumes nothing.
+use Rattle.std.specs.Prelude.{unwrap_or, Some, None, Option}
 use Prim.Native.Nat.{ℕ, ◌+◌, ◌≤◌, ◌<◌}
 use native.Mathlib.Omega.{arith}
 use native.Mathlib.Decide.{ℕ_discrete}
@@ -11,8 +12,6 @@ use lib.Seq.{get_or-set_same, get_or-set_other}
 use Rattle.trees.specs.Tables.{Pair, taxon, home}
 use Rattle.trees.specs.Spots.{species_spot}
 use Rattle.trees.specs.declared.SpeciesNode.{SpeciesNode}
-use Rattle.trees.specs.declared.SpeciesSpot.{SpeciesSpot}
-use Rattle.trees.specs.declared.SpeciesSpot.TheVariants.{At, Nowhere}
 use Rattle.trees.proofs.Spots.{spot_lowest, nowhere_lowest}
 use Rattle.trees.proofs.Sound.{home_is, home_one}
 use Rattle.taxa.specs.Searches.{taxon_at}
@@ -25,18 +24,26 @@ use Rattle.fills.proofs.Turns.{kept_self, kept_join, kept_set, leaf_of, Homed}
 
 -- ---- the scan for a taxon that some node carries
 
-module _ (st : List ℕ) (t : ℕ) (r : SpeciesSpot) (M : SpeciesOfMeets st t r) (C : Seatable st t) where
-  pub seat_found : (s : SpeciesNode) → r ≡ At s → Carries st t s.0
+module _ (st : List ℕ) (t : ℕ) (r : Option SpeciesNode) (M : SpeciesOfMeets st t r) (C : Seatable st t) where
+  pub seat_found : (s : SpeciesNode) → r ≡ Some s → Carries st t s.0
   unfolding taxon_at
   seat_found s e =
       let a : s.0 ≡ taxon_at st t = spot_lowest _ _ s.0 (sym (ap species_spot e) ∙ M) in
       elim (taxon_cases st t) [ inl k ↦ rw a (k.0, k.1) | inr k ↦ absurd (k.1 C.some.0 C.some.1.0 C.some.1.1) ]
 
-  pub seat_somewhere : r ≡ Nowhere → ⊥
+  pub seat_somewhere : r ≡ None → ⊥
   unfolding taxon_at
   seat_somewhere e =
       let a : taxon_at st t ≡ length st = nowhere_lowest _ _ (sym (ap species_spot e) ∙ M) in
       elim (taxon_cases st t) [ inl k ↦ omega (arith, a, k.0) | inr k ↦ k.1 C.some.0 C.some.1.0 C.some.1.1 ]
+
+  -- the node found, or another where there is none
+  pub seat_or : (d x : SpeciesNode) → x ≡ unwrap_or r d → Carries st t x.0
+  seat_or d x e = go r refl
+    where
+      go : (o : Option SpeciesNode) → o ≡ r → Carries st t x.0
+      go (Some s) z = rw (e, sym z) (seat_found s (sym z))
+      go None z = absurd (seat_somewhere (sym z))
 
 -- ---- one leaf
 

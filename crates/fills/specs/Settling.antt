@@ -1,7 +1,7 @@
 -- Private to the settling of the gene leaves, over the tables of taxa alone; nothing of it is part of a promise.
 --   Carries st t s        <-> species node s carries the taxon t
 --   Seatable st t         <-> some species node does
---   Asking st hints gt p  <-> what a round needs: a table of 512 hints, and room
+--   Asking st gt p        <-> what a round needs: species, not too many, and room
 --   Roomy st gt p         <-> what all rounds need: species, not too many, and room
 --   Settleable st gt p    <-> what settling needs: each gene taxon is carried besides
 --   Seated st gt g p p'   <-> the leaf g is put to a place that carries its taxon, the others are as they were
@@ -18,9 +18,8 @@ pub record Seatable (st : List ℕ) (t : ℕ) : Type 0 where
   pub few : length st ≤ 2047
   pub some : (s : ℕ) × Carries st t s
 
-pub record Asking (st hints gt p : List ℕ) : Type 0 where
+pub record Asking (st gt p : List ℕ) : Type 0 where
   pub few : length st ≤ 2047
-  pub table : length hints ≡ 512
   pub room : length gt ≤ length p
 
 pub record Roomy (st gt p : List ℕ) : Type 0 where

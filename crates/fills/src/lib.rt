@@ -7,24 +7,18 @@ mod settling;
 
 ghost use Rattle.std.specs.Prelude.{◌≡◌, ◌≤◌, length, T};
 ghost use Rattle.trees.specs.First.{ParentsFirst};
-ghost use Rattle.trees.specs.Tables.{pair};
+ghost use Rattle.trees.specs.Tables.{pair_of};
 ghost use Rattle.fills.specs.Filling.{kind_of, Ready, Finished, Rising, Risen, Marked, Taking};
 ghost use Rattle.fills.specs.Promises.{Fillable, FillMeets};
 
-use trees::{GeneNode, SpeciesNode};
+use trees::{GeneNode, SpeciesNode, Trees};
 
 // The label of an inner node at m whose children sit at a and b.
+#[tactic(auto, unfolding(crate::specs::Filling::kind_of, trees::specs::Lists::pick))]
 fn kind_of(m: SpeciesNode, a: SpeciesNode, b: SpeciesNode) -> u16
     ensures { result ≡ kind_of m.0 a.0 b.0 }
 {
-    let place = m.0;
-    if a.0 == place {
-        return 2;
-    }
-    if b.0 == place {
-        return 2;
-    }
-    1
+    if a == m || b == m { 2 } else { 1 }
 }
 
 // The places of the two children meet at the gene node `above`, whose second child arrives now: it gets its place and its label.
@@ -50,19 +44,11 @@ fn finish(
 
 // Up from a finished gene leaf: each node whose second child arrives is finished, until one is reached whose other child has
 // not arrived yet, or the root is done.
-fn go_up(
-    species_parents: &[u16],
-    species_taxa: &[u32],
-    gene_parents: &[u16],
-    gene_taxa: &[u32],
-    places: &mut [u16],
-    labels: &mut [u16],
-    leaf: GeneNode,
-    ordered: bool,
-)
-    requires { Rising (pair species_parents.now species_taxa.now gene_parents.now gene_taxa.now) leaf.0 places.old labels.old × (T ordered → ParentsFirst species_parents.now) }
-    ensures { Risen (pair species_parents.now species_taxa.now gene_parents.now gene_taxa.now) leaf.0 places.old places.new labels.old labels.new }
+fn go_up(trees: &Trees<'_>, places: &mut [u16], labels: &mut [u16], leaf: GeneNode, ordered: bool)
+    requires { Rising (pair_of trees.now) leaf.0 places.old labels.old × (T ordered → ParentsFirst trees.now.species.parents.now) }
+    ensures { Risen (pair_of trees.now) leaf.0 places.old places.new labels.old labels.new }
 {
+    let gene_parents = trees.genes.parents;
     let q = gene_parents.len();
     let mut v = leaf.0;
     loop {
@@ -76,7 +62,7 @@ fn go_up(
             return;
         }
         finish(
-            species_parents,
+            trees.species.parents,
             places,
             labels,
             GeneNode(u),
@@ -92,72 +78,32 @@ fn mark(labels: &mut [u16], q: usize)
     requires { q ≤ length labels.old }
     ensures { Marked q labels.old labels.new }
 {
-    let mut i: usize = 0;
-    while i < q {
-        labels[i] = 3;
-        i += 1;
-    }
+    labels[..q].fill(3);
 }
 
 // A gene node in turn: a leaf, which has its place, gets its label and goes up; an inner node waits for its children.
-fn take(
-    species_parents: &[u16],
-    species_taxa: &[u32],
-    gene_parents: &[u16],
-    gene_taxa: &[u32],
-    places: &mut [u16],
-    labels: &mut [u16],
-    node: GeneNode,
-    ordered: bool,
-)
-    requires { Taking (pair species_parents.now species_taxa.now gene_parents.now gene_taxa.now) node.0 places.old labels.old × (T ordered → ParentsFirst species_parents.now) }
-    ensures { Risen (pair species_parents.now species_taxa.now gene_parents.now gene_taxa.now) node.0 places.old places.new labels.old labels.new }
+fn take(trees: &Trees<'_>, places: &mut [u16], labels: &mut [u16], node: GeneNode, ordered: bool)
+    requires { Taking (pair_of trees.now) node.0 places.old labels.old × (T ordered → ParentsFirst trees.now.species.parents.now) }
+    ensures { Risen (pair_of trees.now) node.0 places.old places.new labels.old labels.new }
 {
     let k = node.0;
-    if gene_taxa[k] == 0 {
+    if trees.genes.taxa[k] == 0 {
         return;
     }
     labels[k] = 0;
-    go_up(
-        species_parents,
-        species_taxa,
-        gene_parents,
-        gene_taxa,
-        places,
-        labels,
-        node,
-        ordered,
-    );
+    go_up(trees, places, labels, node, ordered);
 }
 
 // The least history of two sound trees, into two tables that are long enough.
-pub fn fill(
-    species_parents: &[u16],
-    species_taxa: &[u32],
-    gene_parents: &[u16],
-    gene_taxa: &[u32],
-    places: &mut [u16],
-    labels: &mut [u16],
-)
-    requires { Fillable (pair species_parents.now species_taxa.now gene_parents.now gene_taxa.now) places.old labels.old }
-    ensures { FillMeets (pair species_parents.now species_taxa.now gene_parents.now gene_taxa.now) places.old labels.old places.new labels.new }
+pub fn fill(trees: &Trees<'_>, places: &mut [u16], labels: &mut [u16])
+    requires { Fillable (pair_of trees.now) places.old labels.old }
+    ensures { FillMeets (pair_of trees.now) places.old labels.old places.new labels.new }
 {
-    let ordered = roots::in_order(species_parents);
-    let q = gene_parents.len();
-    settling::settle(species_taxa, gene_taxa, places);
+    let ordered = roots::in_order(trees.species.parents);
+    let q = trees.genes.parents.len();
+    settling::settle(trees.species.taxa, trees.genes.taxa, places);
     mark(labels, q);
-    let mut k: usize = 0;
-    while k < q {
-        take(
-            species_parents,
-            species_taxa,
-            gene_parents,
-            gene_taxa,
-            places,
-            labels,
-            GeneNode(k),
-            ordered,
-        );
-        k += 1;
+    for k in 0..q {
+        take(trees, places, labels, GeneNode(k), ordered);
     }
 }

@@ -5,18 +5,14 @@ ghost use Rattle.hints.specs.Promises.{EnterMeets};
 ghost use Rattle.fills.specs.Filling.{Kept};
 ghost use Rattle.fills.specs.Settling.{Carries, Seatable, Asking, Roomy, Settleable, Settled, Seated};
 
-use trees::{GeneNode, SpeciesNode, SpeciesSpot};
+use trees::{GeneNode, SpeciesNode};
 
 // Does the place carry the taxon?
 fn carries(species_taxa: &[u32], place: SpeciesNode, sought: u32) -> bool
     ensures { T result → Carries species_taxa.now sought place.0 }
 {
     let s = place.0;
-    if s < species_taxa.len() {
-        species_taxa[s] == sought
-    } else {
-        false
-    }
+    s < species_taxa.len() && species_taxa[s] == sought
 }
 
 // ---- the rounds
@@ -24,12 +20,12 @@ fn carries(species_taxa: &[u32], place: SpeciesNode, sought: u32) -> bool
 // A gene leaf that isn't at its home yet is put where a hint leads to.
 fn ask_for(
     species_taxa: &[u32],
-    hints: &[u16],
+    hints: &[u16; 512],
     gene_taxa: &[u32],
     places: &mut [u16],
     node: GeneNode,
 )
-    requires { (node.0 < length gene_taxa.now) × Asking species_taxa.now hints.now gene_taxa.now places.old }
+    requires { (node.0 < length gene_taxa.now) × Asking species_taxa.now gene_taxa.now places.old }
     ensures { Kept (length gene_taxa.now) places.old places.new }
 {
     let g = node.0;
@@ -41,28 +37,24 @@ fn ask_for(
     if carries(species_taxa, place, sought) {
         return;
     }
-    let found = hints::ask(species_taxa, hints, sought);
-    let SpeciesSpot::At(home) = found else {
-        return;
-    };
-    places[g] = home.0 as u16;
+    if let Some(home) = hints::ask(species_taxa, hints, sought) {
+        places[g] = home.0 as u16;
+    }
 }
 
 // The gene leaves in turn, with the hints of one round.
-fn ask_all(species_taxa: &[u32], hints: &[u16], gene_taxa: &[u32], places: &mut [u16])
-    requires { Asking species_taxa.now hints.now gene_taxa.now places.old }
+fn ask_all(species_taxa: &[u32], hints: &[u16; 512], gene_taxa: &[u32], places: &mut [u16])
+    requires { Asking species_taxa.now gene_taxa.now places.old }
     ensures { Kept (length gene_taxa.now) places.old places.new }
 {
-    let q = gene_taxa.len();
-    let mut g: usize = 0;
-    while g < q {
+    for g in 0..gene_taxa.len() {
         ask_for(species_taxa, hints, gene_taxa, places, GeneNode(g));
-        g += 1;
     }
 }
 
 // One round, with hints to the next species leaves from `from` on. Answers where the next round begins. The hints are the one table on
-// the stack, 1,024 bytes.
+// the stack, 1,024 bytes, which are not on it while the trees are judged: so it is kept a function of its own in the machine code.
+#[inline(never)]
 fn round(species_taxa: &[u32], gene_taxa: &[u32], places: &mut [u16], from: usize) -> usize
     requires { (from < length species_taxa.now) × Roomy species_taxa.now gene_taxa.now places.old }
     ensures { EnterMeets species_taxa.now from result × Kept (length gene_taxa.now) places.old places.new }
@@ -73,15 +65,13 @@ fn round(species_taxa: &[u32], gene_taxa: &[u32], places: &mut [u16], from: usiz
     next
 }
 
-// The first round, and as many more as there are species leaves for. That `round` is called at two places keeps it a function of its
-// own in the machine code, so that its table is not on the stack while the trees are judged.
+// As many rounds as there are species leaves for.
 fn rounds(species_taxa: &[u32], gene_taxa: &[u32], places: &mut [u16])
     requires { Roomy species_taxa.now gene_taxa.now places.old }
     ensures { Kept (length gene_taxa.now) places.old places.new }
 {
-    let p = species_taxa.len();
-    let mut from = round(species_taxa, gene_taxa, places, 0);
-    while from < p {
+    let mut from = 0;
+    while from < species_taxa.len() {
         from = round(species_taxa, gene_taxa, places, from);
     }
 }
@@ -96,11 +86,7 @@ fn seat(species_taxa: &[u32], place: SpeciesNode, sought: u32) -> SpeciesNode
     if carries(species_taxa, place, sought) {
         return place;
     }
-    let found = taxa::species_of(species_taxa, sought);
-    let SpeciesSpot::At(home) = found else {
-        return place;
-    };
-    home
+    taxa::species_of(species_taxa, sought).unwrap_or(place)
 }
 
 // A gene leaf is put to its home.
@@ -124,10 +110,7 @@ pub(crate) fn settle(species_taxa: &[u32], gene_taxa: &[u32], places: &mut [u16]
     ensures { Settled species_taxa.now gene_taxa.now (length gene_taxa.now) places.old places.new }
 {
     rounds(species_taxa, gene_taxa, places);
-    let q = gene_taxa.len();
-    let mut g: usize = 0;
-    while g < q {
+    for g in 0..gene_taxa.len() {
         settle_at(species_taxa, gene_taxa, places, GeneNode(g));
-        g += 1;
     }
 }

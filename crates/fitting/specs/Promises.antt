@@ -7,7 +7,7 @@
 use Rattle.std.specs.Prelude.{ℕ, ◌≤◌, ◌<◌, ◌≡◌, List, [], ◌∷◌, length, get_or}
 use Rattle.trees.specs.Rulings.{each, verdict}
 use Rattle.trees.specs.Answers.{judged_of}
-use Rattle.trees.specs.declared.Judged.{Judged}
+use Rattle.trees.specs.Answers.{Judged}
 use Rattle.homes.specs.Homes.{homed_by}
 use Rattle.fitting.specs.Tests.{fitting_by}
 

@@ -4,80 +4,61 @@
 #![tactic(auto)]
 
 ghost use Rattle.std.specs.Prelude.{◌≡◌, ◌+◌, ◌≤◌, ◌<◌, length};
-ghost use Rattle.hints.specs.Hints.{slot_of_lem, hits};
+ghost use Rattle.hints.specs.Hints.{hits};
 ghost use Rattle.hints.specs.Promises.{EnterMeets, AskMeets};
 
-use trees::{SpeciesNode, SpeciesSpot};
-
-// Where the search for a taxon begins: the high bits of its product with an odd constant, so that taxa which share their low bits are
-// spread too.
-fn slot_of(taxon: u32) -> usize
-    ensures { result ≡ slot_of_lem taxon }
-{
-    ((taxon as u64) * 2654435761 % 4294967296 / 8388608) as usize
-}
+use trees::{SpeciesNode, slot_of};
 
 // ---- a round
 
 // No hint is left.
-fn clear(hints: &mut [u16]) {
-    let n = hints.len();
-    let mut i: usize = 0;
-    while i < n {
-        hints[i] = 0;
-        i += 1;
-    }
+fn clear(hints: &mut [u16; 512]) {
+    hints.fill(0);
 }
 
 // The first free entry from a slot on, or 0 if all are taken.
-fn first_free(hints: &[u16], slot: usize) -> usize
-    requires { (length hints.now ≡ 512) × (slot < 512) }
+fn first_free(hints: &[u16; 512], slot: usize) -> usize
+    requires { slot < 512 }
     ensures { result < 512 }
 {
-    let last = slot + 512;
-    let mut at = slot;
-    while at < last {
+    for at in slot..slot + 512 {
         let k = at % 512;
         if hints[k] == 0 {
             return k;
         }
-        at += 1;
     }
     0
 }
 
-// A hint to the node, if it carries a taxon: 1; else 0.
-fn hint_at(species_taxa: &[u32], hints: &mut [u16], node: SpeciesNode) -> usize
-    requires { (length hints.old ≡ 512) × (node.0 < length species_taxa.now) × (length species_taxa.now ≤ 2047) }
-    ensures { result ≤ 1 }
+// A hint to the node, if it carries a taxon. Answers whether one was made.
+fn hint_at(species_taxa: &[u32], hints: &mut [u16; 512], node: SpeciesNode) -> bool
+    requires { (node.0 < length species_taxa.now) × (length species_taxa.now ≤ 2047) }
 {
     let i = node.0;
     let taxon = species_taxa[i];
     if taxon == 0 {
-        return 0;
+        return false;
     }
-    let s = slot_of(taxon);
+    let s = slot_of(taxon, 512);
     let k = first_free(hints, s);
     hints[k] = (i + 1) as u16;
-    1
+    true
 }
 
 // A round: the table has hints to the next leaves from `from` on, 256 or as many as there are left. Answers where the next round
 // begins.
-pub fn enter(species_taxa: &[u32], hints: &mut [u16], from: usize) -> usize
-    requires { (length hints.old ≡ 512) × (from < length species_taxa.now) × (length species_taxa.now ≤ 2047) }
+pub fn enter(species_taxa: &[u32], hints: &mut [u16; 512], from: usize) -> usize
+    requires { (from < length species_taxa.now) × (length species_taxa.now ≤ 2047) }
     ensures { EnterMeets species_taxa.now from result }
 {
     clear(hints);
     let n = species_taxa.len();
     let mut left: usize = 256;
-    let mut i = from;
-    while i < n {
+    for i in from..n {
         if left == 0 {
             return i;
         }
-        left -= hint_at(species_taxa, hints, SpeciesNode(i));
-        i += 1;
+        left -= usize::from(hint_at(species_taxa, hints, SpeciesNode(i)));
     }
     n
 }
@@ -85,36 +66,28 @@ pub fn enter(species_taxa: &[u32], hints: &mut [u16], from: usize) -> usize
 // ---- a question
 
 // Does a hint lead to a node that carries the taxon?
+#[tactic(auto, unfolding(crate::specs::Hints::hits))]
 fn hits_at(species_taxa: &[u32], hint: usize, taxon: u32) -> bool
     requires { 1 ≤ hint }
     ensures { result ≡ hits species_taxa.now taxon hint }
 {
     let k = hint - 1;
-    if k < species_taxa.len() {
-        species_taxa[k] == taxon
-    } else {
-        false
-    }
+    k < species_taxa.len() && species_taxa[k] == taxon
 }
 
 // A species node that carries the taxon, if a hint leads to one. Equal taxa get equal answers.
-pub fn ask(species_taxa: &[u32], hints: &[u16], taxon: u32) -> SpeciesSpot
-    requires { length hints.now ≡ 512 }
+pub fn ask(species_taxa: &[u32], hints: &[u16; 512], taxon: u32) -> Option<SpeciesNode>
     ensures { AskMeets species_taxa.now hints.now taxon result }
 {
-    let slot = slot_of(taxon);
-    let last = slot + 512;
-    let mut at = slot;
-    while at < last {
-        let k = at % 512;
-        let hint = hints[k] as usize;
+    let slot = slot_of(taxon, 512);
+    for at in slot..slot + 512 {
+        let hint = hints[at % 512] as usize;
         if hint == 0 {
-            return SpeciesSpot::Nowhere;
+            return None;
         }
         if hits_at(species_taxa, hint, taxon) {
-            return SpeciesSpot::At(SpeciesNode(hint - 1));
+            return Some(SpeciesNode(hint - 1));
         }
-        at += 1;
     }
-    SpeciesSpot::Nowhere
+    None
 }

@@ -8,7 +8,7 @@ use Rattle.trees.specs.Tables.{Pair}
 use Rattle.trees.specs.Rulings.{verdict}
 use Rattle.trees.specs.Rules.{species_rules, family_rules, pair_rules}
 use Rattle.trees.specs.Answers.{judged_of}
-use Rattle.trees.specs.declared.Judged.{Judged}
+use Rattle.trees.specs.Answers.{Judged}
 
 abbrev pub JudgeSpeciesMeets : List ℕ → List ℕ → Judged → Type 0
 JudgeSpeciesMeets sp st r = judged_of r ≡ verdict (species_rules sp st)

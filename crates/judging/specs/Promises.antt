@@ -4,7 +4,7 @@
 use Rattle.std.specs.Prelude.{ℕ, ◌≡◌, List}
 use Rattle.trees.specs.Rulings.{verdict}
 use Rattle.trees.specs.Answers.{judged_of}
-use Rattle.trees.specs.declared.Judged.{Judged}
+use Rattle.trees.specs.Answers.{Judged}
 use Rattle.judging.specs.Judging.{image_rules}
 
 abbrev pub JudgeImageMeets : List ℕ → List ℕ → List ℕ → Judged → Type 0

@@ -12,81 +12,54 @@ ghost use Rattle.judging.specs.Judging.{table_rules, stored_rules};
 ghost use Rattle.judging.specs.Promises.{JudgeImageMeets};
 
 use loading::tables;
-use opening::Opened;
-use trees::Judged;
+use trees::{Refusal, Tree, Trees};
 
 // The gene rules 2, 38, 3, 4, 6 and the rules of descent 8 to 11, of tables of one right size on a sound rack. The places themselves tell
 // where each leaf's taxon stands among the species; only where they do not, 6 and 9 are looked for.
-fn judge_tables(
-    species_parents: &[u16],
-    species_taxa: &[u32],
-    gene_parents: &[u16],
-    gene_taxa: &[u32],
-    places: &[u16],
-    labels: &[u16],
-) -> Judged
-    requires { Tellable species_parents.now species_taxa.now (lent gene_parents.now gene_taxa.now places.now labels.now) }
-    ensures { judged_of result ≡ verdict (table_rules species_parents.now species_taxa.now (lent gene_parents.now gene_taxa.now places.now labels.now)) }
+fn judge_tables(trees: &Trees<'_>, places: &[u16], labels: &[u16]) -> Result<(), Refusal>
+    requires { Tellable trees.now.species.parents.now trees.now.species.taxa.now (lent trees.now.genes.parents.now trees.now.genes.taxa.now places.now labels.now) }
+    ensures { judged_of result ≡ verdict (table_rules trees.now.species.parents.now trees.now.species.taxa.now (lent trees.now.genes.parents.now trees.now.genes.taxa.now places.now labels.now)) }
 {
-    let homed = homes::all_homed(species_taxa, gene_taxa, places);
-    let judged = judges::judge_family(
-        species_parents,
-        species_taxa,
-        gene_parents,
-        gene_taxa,
-        homed,
-    );
-    if let Judged::Refused(r) = judged {
-        return Judged::Refused(r);
-    }
-    offers::judge_rules(
-        species_parents,
-        species_taxa,
-        gene_parents,
-        gene_taxa,
-        places,
-        labels,
-        homed,
-    )
+    let homed = homes::all_homed(trees.species.taxa, trees.genes.taxa, places);
+    judges::judge_family(trees, homed)?;
+    offers::judge_rules(trees, places, labels, homed)
 }
 
 // The same of an image that opens on the rack, read into four tables of as many entries as it has gene nodes.
 fn judge_stored(
-    species_parents: &[u16],
-    species_taxa: &[u32],
+    species: &Tree<'_>,
     image: &[u8],
     gene_parents: &mut [u16],
     gene_taxa: &mut [u32],
     places: &mut [u16],
     labels: &mut [u16],
-) -> Judged
-    requires { Loadable species_parents.now species_taxa.now image.now (lent gene_parents.old gene_taxa.old places.old labels.old) }
-    ensures { judged_of result ≡ verdict (stored_rules species_parents.now species_taxa.now image.now) }
+) -> Result<(), Refusal>
+    requires { Loadable species.now.parents.now species.now.taxa.now image.now (lent gene_parents.old gene_taxa.old places.old labels.old) }
+    ensures { judged_of result ≡ verdict (stored_rules species.now.parents.now species.now.taxa.now image.now) }
 {
-    let p = species_parents.len();
+    let p = species.parents.len();
     tables::read_genes(image, 3 + 3 * p, gene_parents, gene_taxa, places, labels);
-    judge_tables(
-        species_parents,
-        species_taxa,
-        gene_parents,
-        gene_taxa,
-        places,
-        labels,
-    )
+    let trees = Trees {
+        species: *species,
+        genes: Tree {
+            parents: gene_parents,
+            taxa: gene_taxa,
+        },
+    };
+    judge_tables(&trees, places, labels)
 }
 
-// An image that opens on the rack and has q gene nodes, few: 2,550 bytes of stack.
-fn judge_few(species_parents: &[u16], species_taxa: &[u32], image: &[u8], q: usize) -> Judged
-    requires { Opens species_parents.now species_taxa.now image.now q × (q ≤ 255) }
-    ensures { judged_of result ≡ verdict (stored_rules species_parents.now species_taxa.now image.now) }
+// An image that opens on the rack and has q gene nodes, at most N: 10 bytes of stack for each of the N.
+fn judge_in<const N: usize>(species: &Tree<'_>, image: &[u8], q: usize) -> Result<(), Refusal>
+    requires { Opens species.now.parents.now species.now.taxa.now image.now q × (q ≤ N) × (N ≤ 2047) }
+    ensures { judged_of result ≡ verdict (stored_rules species.now.parents.now species.now.taxa.now image.now) }
 {
-    let mut gene_parents = [0u16; 255];
-    let mut gene_taxa = [0u32; 255];
-    let mut places = [0u16; 255];
-    let mut labels = [0u16; 255];
+    let mut gene_parents = [0u16; N];
+    let mut gene_taxa = [0u32; N];
+    let mut places = [0u16; N];
+    let mut labels = [0u16; N];
     judge_stored(
-        species_parents,
-        species_taxa,
+        species,
         image,
         &mut gene_parents[..q],
         &mut gene_taxa[..q],
@@ -95,41 +68,15 @@ fn judge_few(species_parents: &[u16], species_taxa: &[u32], image: &[u8], q: usi
     )
 }
 
-// The same for any number of gene nodes: 20,470 bytes of stack.
-fn judge_many(species_parents: &[u16], species_taxa: &[u32], image: &[u8], q: usize) -> Judged
-    requires { Opens species_parents.now species_taxa.now image.now q }
-    ensures { judged_of result ≡ verdict (stored_rules species_parents.now species_taxa.now image.now) }
-{
-    let mut gene_parents = [0u16; 2047];
-    let mut gene_taxa = [0u32; 2047];
-    let mut places = [0u16; 2047];
-    let mut labels = [0u16; 2047];
-    judge_stored(
-        species_parents,
-        species_taxa,
-        image,
-        &mut gene_parents[..q],
-        &mut gene_taxa[..q],
-        &mut places[..q],
-        &mut labels[..q],
-    )
-}
-
-// The image of a family on a rack with these species tables: `Sound` where `load` accepts it, given tables that are long enough, or
+// The image of a family on a rack with these species tables: `Ok` where `load` accepts it, given tables that are long enough, or
 // else the refusal of `load`.
 #[tactic(auto, using(crate::proofs::Judging::opened_judged))]
-pub fn judge_image(species_parents: &[u16], species_taxa: &[u32], image: &[u8]) -> Judged
-    ensures { JudgeImageMeets species_parents.now species_taxa.now image.now result }
+pub fn judge_image(species: &Tree<'_>, image: &[u8]) -> Result<(), Refusal>
+    ensures { JudgeImageMeets species.now.parents.now species.now.taxa.now image.now result }
 {
-    let opened = opening::open_image(species_parents, species_taxa, image);
-    match opened {
-        Opened::Genes(q) => {
-            if q <= 255 {
-                judge_few(species_parents, species_taxa, image, q)
-            } else {
-                judge_many(species_parents, species_taxa, image, q)
-            }
-        }
-        Opened::Refused(r) => Judged::Refused(r),
+    let q = opening::open_image(species, image)?;
+    if q <= 255 {
+        return judge_in::<255>(species, image, q);
     }
+    judge_in::<2047>(species, image, q)
 }

@@ -1,4 +1,5 @@
 -- One answer only: any two results that meet a contract of this crate are equal. Assumes nothing.
+use Rattle.std.specs.Prelude.{Ok, Err}
 use Prim.Native.Nat.{ℕ}
 use mathlib.Core.Path.{◌≡◌, sym, ap, ◌∙◌}
 use mathlib.Core.List.{List}
@@ -13,8 +14,7 @@ use Rattle.histories.specs.Outcomes.{Outcome}
 use Rattle.least.specs.Answers.{counts_of, least_of}
 use Rattle.least.specs.Promises.{CostMeets, LeastHistoryMeets}
 use Rattle.least.specs.declared.LeastCounts.{LeastCounts}
-use Rattle.least.specs.declared.LeastAnswer.{LeastAnswer}
-use Rattle.least.specs.declared.LeastAnswer.TheVariants.{Done, Refused}
+use Rattle.least.specs.Answers.{LeastAnswer}
 
 -- the counts handed back are fixed by the paper's counts
 counts_one : (a b : LeastCounts) → counts_of a ≡ counts_of b → a ≡ b
@@ -22,10 +22,10 @@ counts_one a b e =
     ap (λ (c : Counts). record { duplications = c.duplications; losses = c.losses; speciations = c.speciations; climbs = c.climbs; cost = c.cost }) e
 
 pub least_one : (a b : LeastAnswer) → least_of a ≡ least_of b → a ≡ b
-least_one (Done a) (Done b) e = let q : counts_of a ≡ counts_of b = cc in ap Done (counts_one a b q)
-least_one (Done a) (Refused s) e = clash (cc)
-least_one (Refused r) (Done b) e = clash (cc)
-least_one (Refused r) (Refused s) e = ap Refused (refusal_one r s e)
+least_one (Ok a) (Ok b) e = let q : counts_of a ≡ counts_of b = cc in ap Ok (counts_one a b q)
+least_one (Ok a) (Err s) e = clash (cc)
+least_one (Err r) (Ok b) e = clash (cc)
+least_one (Err r) (Err s) e = ap Err (refusal_one r s e)
 
 -- ---- one theorem for each public function
 

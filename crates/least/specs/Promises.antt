@@ -7,7 +7,7 @@ use Rattle.trees.specs.Tables.{Pair}
 use Rattle.histories.specs.Histories.{cost}
 use Rattle.histories.specs.Outcomes.{Outcome, least_outcome}
 use Rattle.least.specs.Answers.{least_of}
-use Rattle.least.specs.declared.LeastAnswer.{LeastAnswer}
+use Rattle.least.specs.Answers.{LeastAnswer}
 
 abbrev pub CostMeets : ℕ → ℕ → ℕ → ℕ → ℕ → Type 0
 CostMeets dw lw ds ls r = r ≡ cost dw lw ds ls

@@ -1,10 +1,10 @@
 // The least history of a gene tree on a species tree, and its cost.
 #![tactic(auto)]
 
-ghost use Rattle.trees.specs.Tables.{pair};
+ghost use Rattle.trees.specs.Tables.{pair_of};
 ghost use Rattle.least.specs.Promises.{CostMeets, LeastHistoryMeets};
 
-use trees::{Judged, Refusal, refuse};
+use trees::{Refusal, Trees, refuse};
 
 // What the least history counts.
 #[derive(Clone, Copy)]
@@ -14,12 +14,6 @@ pub struct LeastCounts {
     pub speciations: u32,
     pub climbs: u32,
     pub cost: u64,
-}
-
-#[derive(Clone, Copy)]
-pub enum LeastAnswer {
-    Done(LeastCounts),
-    Refused(Refusal),
 }
 
 // dw for each duplication and lw for each loss.
@@ -33,44 +27,25 @@ pub fn cost(dw: u16, lw: u16, duplications: u32, losses: u32) -> u64
 // what it counts, with the cost at weights dw and lw. Refusals: the trees' own, then 7. A refusal leaves both tables as they
 // were; success changes nothing behind the first q entries.
 pub fn least_history(
-    species_parents: &[u16],
-    species_taxa: &[u32],
-    gene_parents: &[u16],
-    gene_taxa: &[u32],
+    trees: &Trees<'_>,
     places: &mut [u16],
     labels: &mut [u16],
     dw: u16,
     lw: u16,
-) -> LeastAnswer
-    ensures { LeastHistoryMeets (pair species_parents.now species_taxa.now gene_parents.now gene_taxa.now) places.old labels.old dw lw result places.new labels.new }
+) -> Result<LeastCounts, Refusal>
+    ensures { LeastHistoryMeets (pair_of trees.now) places.old labels.old dw lw result places.new labels.new }
 {
-    let judged = judges::judge_pair(species_parents, species_taxa, gene_parents, gene_taxa);
-    if let Judged::Refused(r) = judged {
-        return LeastAnswer::Refused(r);
+    judges::judge_pair(trees)?;
+    let q = trees.genes.parents.len();
+    if places.len() < q {
+        return Err(refuse(7, 0, 0));
     }
-    if places.len() < gene_parents.len() {
-        return LeastAnswer::Refused(refuse(7, 0, 0));
+    if labels.len() < q {
+        return Err(refuse(7, 0, 0));
     }
-    if labels.len() < gene_parents.len() {
-        return LeastAnswer::Refused(refuse(7, 0, 0));
-    }
-    fills::fill(
-        species_parents,
-        species_taxa,
-        gene_parents,
-        gene_taxa,
-        places,
-        labels,
-    );
-    let t = climbs::count_climbs(
-        species_parents,
-        species_taxa,
-        gene_parents,
-        gene_taxa,
-        places,
-        labels,
-    );
-    LeastAnswer::Done(LeastCounts {
+    fills::fill(trees, places, labels);
+    let t = climbs::count_climbs(trees, places, labels);
+    Ok(LeastCounts {
         duplications: t.duplications,
         losses: t.losses,
         speciations: t.speciations,

@@ -1,26 +1,13 @@
--- The four lent tables filled and cleared. Assumes nothing.
-use Prim.Native.Nat.{ℕ, ◌+◌, ◌*◌, ◌<◌}
-use native.Mathlib.Omega.{arith}
-use mathlib.Core.Path.{◌≡◌, sym}
+-- The four lent tables filled. Assumes nothing.
+use Prim.Native.Nat.{ℕ, ◌+◌, ◌*◌}
+use mathlib.Core.Path.{◌≡◌}
 use mathlib.Core.List.{List}
-use lib.ListN.{length, set, replicate, length-replicate, get_or-replicate}
+use lib.ListN.{length}
 use Rattle.blocks.specs.Halves.{longs_of}
 use Rattle.blocks.specs.Blocks.{run}
-use Rattle.words.proofs.Tables.{Filling, filling_start, filling_more}
 use Rattle.families.specs.Loading.{Lent}
 use Rattle.loading.specs.Conditions.{EvenLent}
 use Rattle.loading.specs.Outcomes.{lent, genes_at}
-
--- ---- zero into one table
-
-abbrev pub Clearing : List ℕ → List ℕ → ℕ → Type 0
-Clearing old out k = Filling old (replicate (length old) 0) out k
-
-pub clearing_start : (old : List ℕ) → Clearing old old 0
-clearing_start old = filling_start old _ (length-replicate {A = ℕ} (length old) 0)
-
-pub clearing_more : (old out : List ℕ) (k : ℕ) → Clearing old out k → k < length out → Clearing old (set out k 0) (k + 1)
-clearing_more old out k f h = filling_more old _ out k 0 f h (sym (get_or-replicate {A = ℕ} (length old) k 0 0 (omega (arith, f.same))))
 
 -- ---- four tables
 

@@ -1,5 +1,6 @@
 -- One answer only: any two results that meet a contract of this crate are equal. A result of a load is the answer and the four tables.
 -- Assumes nothing.
+use Rattle.std.specs.Prelude.{Ok, Err}
 use Prim.Native.Nat.{ℕ}
 use mathlib.Core.Path.{◌≡◌, sym, ap, ◌∙◌}
 use mathlib.Core.List.{List}
@@ -11,17 +12,16 @@ use Rattle.families.specs.Loading.{Lent, Contents, Loading}
 use Rattle.loading.specs.Answers.{stored_of, loaded_of}
 use Rattle.loading.specs.Promises.{ReadGenesMeets, LoadImageMeets}
 use Rattle.loading.specs.declared.Stored.{Stored}
-use Rattle.loading.specs.declared.Loaded.{Loaded}
-use Rattle.loading.specs.declared.Loaded.TheVariants as loaded
+use Rattle.loading.specs.Answers.{Loaded}
 
 stored_one : (a b : Stored) → stored_of a ≡ stored_of b → a ≡ b
 stored_one a b e = ap (λ (c : Contents). record { species = c.species; genes = c.genes; duplications = c.duplications; losses = c.losses }) e
 
 loaded_one : (a b : Loaded) → loaded_of a ≡ loaded_of b → a ≡ b
-loaded_one (loaded.Family a) (loaded.Family b) e = let q : stored_of a ≡ stored_of b = cc in ap loaded.Family (stored_one a b q)
-loaded_one (loaded.Family a) (loaded.Refused s) e = clash (cc)
-loaded_one (loaded.Refused r) (loaded.Family b) e = clash (cc)
-loaded_one (loaded.Refused r) (loaded.Refused s) e = ap loaded.Refused (refusal_one r s e)
+loaded_one (Ok a) (Ok b) e = let q : stored_of a ≡ stored_of b = cc in ap Ok (stored_one a b q)
+loaded_one (Ok a) (Err s) e = clash (cc)
+loaded_one (Err r) (Ok b) e = clash (cc)
+loaded_one (Err r) (Err s) e = ap Err (refusal_one r s e)
 
 pub read_genes_one : (image : List ℕ) (i : ℕ) (gp gt places labels : List ℕ)
     → Single (λ (r : Lent). ReadGenesMeets image i gp gt places labels r.gp r.gt r.places r.labels)

@@ -8,7 +8,7 @@ use Rattle.blocks.specs.Blocks.{content}
 use Rattle.families.specs.Loading.{Loading, load}
 use Rattle.loading.specs.Answers.{loaded_of}
 use Rattle.loading.specs.Outcomes.{lent, genes_at}
-use Rattle.loading.specs.declared.Loaded.{Loaded}
+use Rattle.loading.specs.Answers.{Loaded}
 
 abbrev pub ReadGenesMeets : List ℕ → ℕ → List ℕ → List ℕ → List ℕ → List ℕ → List ℕ → List ℕ → List ℕ → List ℕ → Type 0
 ReadGenesMeets image i gp gt places labels gp' gt' places' labels' = lent gp' gt' places' labels' ≡ genes_at (content image) i (length gp)

@@ -5,7 +5,7 @@ pub mod tables;
 
 ghost use Rattle.std.specs.Prelude.{◌≡◌, ◌&&◌, leb};
 ghost use Rattle.trees.specs.Rulings.{ruling};
-ghost use Rattle.trees.specs.Tables.{pair};
+ghost use Rattle.trees.specs.Tables.{pair_of};
 ghost use Rattle.histories.specs.Histories.{told};
 ghost use Rattle.histories.specs.Rules.{offer_counts};
 ghost use Rattle.offers.specs.Answers.{offered_of};
@@ -18,9 +18,8 @@ ghost use Rattle.opening.specs.Conditions.{Opens};
 ghost use Rattle.loading.specs.Outcomes.{lent, story_outcome};
 ghost use Rattle.loading.specs.Promises.{LoadImageMeets};
 
-use offers::Offered;
-use opening::Opened;
-use trees::{Judged, Refusal};
+use offers::HistoryCounts;
+use trees::{Refusal, Tree, Trees, refuse};
 
 // What an image holds: how many species nodes and gene nodes, and what its history counts.
 #[derive(Clone, Copy)]
@@ -31,79 +30,48 @@ pub struct Stored {
     pub losses: u32,
 }
 
-#[derive(Clone, Copy)]
-pub enum Loaded {
-    Family(Stored),
-    Refused(Refusal),
-}
-
 // The gene rules 2, 38, 3, 4, 6 and the rules of descent 8 to 11, on a sound rack and tables of one right size.
-fn judge_story(
-    species_parents: &[u16],
-    species_taxa: &[u32],
-    gene_parents: &[u16],
-    gene_taxa: &[u32],
-    places: &[u16],
-    labels: &[u16],
-) -> Offered
-    requires { Tellable species_parents.now species_taxa.now (lent gene_parents.now gene_taxa.now places.now labels.now) }
-    ensures { offered_of result ≡ ruling (story_rules (pair species_parents.now species_taxa.now gene_parents.now gene_taxa.now) (told places.now labels.now)) (offer_counts (pair species_parents.now species_taxa.now gene_parents.now gene_taxa.now) (told places.now labels.now)) }
+fn judge_story(trees: &Trees<'_>, places: &[u16], labels: &[u16]) -> Result<HistoryCounts, Refusal>
+    requires { Tellable trees.now.species.parents.now trees.now.species.taxa.now (lent trees.now.genes.parents.now trees.now.genes.taxa.now places.now labels.now) }
+    ensures { offered_of result ≡ ruling (story_rules (pair_of trees.now) (told places.now labels.now)) (offer_counts (pair_of trees.now) (told places.now labels.now)) }
 {
-    let homed = homes::all_homed(species_taxa, gene_taxa, places);
-    let judged = judges::judge_family(
-        species_parents,
-        species_taxa,
-        gene_parents,
-        gene_taxa,
-        homed,
-    );
-    if let Judged::Refused(r) = judged {
-        return Offered::Refused(r);
-    }
-    offers::judge_descent(
-        species_parents,
-        species_taxa,
-        gene_parents,
-        gene_taxa,
-        places,
-        labels,
-    )
+    let homed = homes::all_homed(trees.species.taxa, trees.genes.taxa, places);
+    judges::judge_family(trees, homed)?;
+    offers::judge_descent(trees, places, labels)
 }
 
 // An image that opens on the rack, into four tables of as many entries as it has gene nodes. A refusal leaves them all zero.
 fn load_genes(
-    species_parents: &[u16],
-    species_taxa: &[u32],
+    species: &Tree<'_>,
     image: &[u8],
     gene_parents: &mut [u16],
     gene_taxa: &mut [u32],
     places: &mut [u16],
     labels: &mut [u16],
-) -> Loaded
-    requires { Loadable species_parents.now species_taxa.now image.now (lent gene_parents.old gene_taxa.old places.old labels.old) }
-    ensures { ◌≡◌ {A = Loading} (record { answer = loaded_of result; tables = lent gene_parents.new gene_taxa.new places.new labels.new }) (story_outcome species_parents.now species_taxa.now (family_of (content image.now))) }
+) -> Result<Stored, Refusal>
+    requires { Loadable species.now.parents.now species.now.taxa.now image.now (lent gene_parents.old gene_taxa.old places.old labels.old) }
+    ensures { ◌≡◌ {A = Loading} (record { answer = loaded_of result; tables = lent gene_parents.new gene_taxa.new places.new labels.new }) (story_outcome species.now.parents.now species.now.taxa.now (family_of (content image.now))) }
 {
-    let p = species_parents.len();
+    let p = species.parents.len();
     let q = gene_parents.len();
     tables::read_genes(image, 3 + 3 * p, gene_parents, gene_taxa, places, labels);
-    let story = judge_story(
-        species_parents,
-        species_taxa,
-        gene_parents,
-        gene_taxa,
-        places,
-        labels,
-    );
-    match story {
-        Offered::Legal(t) => Loaded::Family(Stored {
+    let trees = Trees {
+        species: *species,
+        genes: Tree {
+            parents: gene_parents,
+            taxa: gene_taxa,
+        },
+    };
+    match judge_story(&trees, places, labels) {
+        Ok(t) => Ok(Stored {
             species: p,
             genes: q,
             duplications: t.duplications,
             losses: t.losses,
         }),
-        Offered::Refused(r) => {
+        Err(r) => {
             tables::clear_genes(gene_parents, gene_taxa, places, labels);
-            Loaded::Refused(r)
+            Err(r)
         }
     }
 }
@@ -112,31 +80,21 @@ fn load_genes(
 fn lends_all(q: usize, a: usize, b: usize, c: usize, d: usize) -> bool
     ensures { result ≡ (leb q a && leb q b) && (leb q c && leb q d) }
 {
-    if a < q {
-        return false;
-    }
-    if b < q {
-        return false;
-    }
-    if c < q {
-        return false;
-    }
-    q <= d
+    (q <= a && q <= b) && (q <= c && q <= d)
 }
 
 // An image that opens on the rack and has q gene nodes, into the first q entries of four lent tables: 7, then the gene rules.
 fn load_opened(
-    species_parents: &[u16],
-    species_taxa: &[u32],
+    species: &Tree<'_>,
     image: &[u8],
     q: usize,
     gene_parents: &mut [u16],
     gene_taxa: &mut [u32],
     places: &mut [u16],
     labels: &mut [u16],
-) -> Loaded
-    requires { Opens species_parents.now species_taxa.now image.now q }
-    ensures { LoadImageMeets species_parents.now species_taxa.now image.now gene_parents.old gene_taxa.old places.old labels.old result gene_parents.new gene_taxa.new places.new labels.new }
+) -> Result<Stored, Refusal>
+    requires { Opens species.now.parents.now species.now.taxa.now image.now q }
+    ensures { LoadImageMeets species.now.parents.now species.now.taxa.now image.now gene_parents.old gene_taxa.old places.old labels.old result gene_parents.new gene_taxa.new places.new labels.new }
 {
     if !lends_all(
         q,
@@ -145,15 +103,10 @@ fn load_opened(
         places.len(),
         labels.len(),
     ) {
-        return Loaded::Refused(Refusal {
-            number: 7,
-            tree: 0,
-            place: 0,
-        });
+        return Err(refuse(7, 0, 0));
     }
     load_genes(
-        species_parents,
-        species_taxa,
+        species,
         image,
         &mut gene_parents[..q],
         &mut gene_taxa[..q],
@@ -166,28 +119,15 @@ fn load_opened(
 // species 1 to 5, then 13 to 18, then 7 for the lent tables; these leave the tables as they were. Then gene 2, 38, 3, 4, 6 and 8 to 11;
 // these leave the first q entries of the four tables zero, q the image's count of gene nodes, and the rest as it was.
 pub fn load_image(
-    species_parents: &[u16],
-    species_taxa: &[u32],
+    species: &Tree<'_>,
     image: &[u8],
     gene_parents: &mut [u16],
     gene_taxa: &mut [u32],
     places: &mut [u16],
     labels: &mut [u16],
-) -> Loaded
-    ensures { LoadImageMeets species_parents.now species_taxa.now image.now gene_parents.old gene_taxa.old places.old labels.old result gene_parents.new gene_taxa.new places.new labels.new }
+) -> Result<Stored, Refusal>
+    ensures { LoadImageMeets species.now.parents.now species.now.taxa.now image.now gene_parents.old gene_taxa.old places.old labels.old result gene_parents.new gene_taxa.new places.new labels.new }
 {
-    let opened = opening::open_image(species_parents, species_taxa, image);
-    match opened {
-        Opened::Genes(q) => load_opened(
-            species_parents,
-            species_taxa,
-            image,
-            q,
-            gene_parents,
-            gene_taxa,
-            places,
-            labels,
-        ),
-        Opened::Refused(r) => Loaded::Refused(r),
-    }
+    let q = opening::open_image(species, image)?;
+    load_opened(species, image, q, gene_parents, gene_taxa, places, labels)
 }

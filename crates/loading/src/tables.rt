@@ -1,5 +1,5 @@
 // The four lent tables of a load: filled from an image, or cleared.
-ghost use Rattle.std.specs.Prelude.{◌≡◌, length, replicate};
+ghost use Rattle.std.specs.Prelude.{◌≡◌};
 ghost use Rattle.loading.specs.Conditions.{GenesRoom};
 ghost use Rattle.loading.specs.Outcomes.{lent, cleared_all};
 ghost use Rattle.loading.specs.Promises.{ReadGenesMeets};
@@ -19,30 +19,10 @@ pub fn read_genes(
     ensures { ReadGenesMeets image.now i gene_parents.old gene_taxa.old places.old labels.old gene_parents.new gene_taxa.new places.new labels.new }
 {
     let q = gene_parents.len();
-    read::read_words(image, i, gene_parents);
-    read::read_longs(image, i + q, gene_taxa);
-    read::read_words(image, i + 3 * q, places);
-    read::read_words(image, i + 4 * q, labels);
-}
-
-fn clear_words(table: &mut [u16])
-    ensures { table.new ≡ replicate (length table.old) 0 }
-{
-    let mut i: usize = 0;
-    while i < table.len() {
-        table[i] = 0;
-        i += 1;
-    }
-}
-
-fn clear_longs(table: &mut [u32])
-    ensures { table.new ≡ replicate (length table.old) 0 }
-{
-    let mut i: usize = 0;
-    while i < table.len() {
-        table[i] = 0;
-        i += 1;
-    }
+    read::read(image, i, gene_parents);
+    read::read(image, i + q, gene_taxa);
+    read::read(image, i + 3 * q, places);
+    read::read(image, i + 4 * q, labels);
 }
 
 // Zero into all of the four tables.
@@ -54,8 +34,8 @@ pub(crate) fn clear_genes(
 )
     ensures { lent gene_parents.new gene_taxa.new places.new labels.new ≡ cleared_all (lent gene_parents.old gene_taxa.old places.old labels.old) }
 {
-    clear_words(gene_parents);
-    clear_longs(gene_taxa);
-    clear_words(places);
-    clear_words(labels);
+    gene_parents.fill(0);
+    gene_taxa.fill(0);
+    places.fill(0);
+    labels.fill(0);
 }

@@ -1,11 +1,12 @@
 // A table with two bits for each node, four nodes an entry: 512 entries for 2,047 nodes. The nodes may be of either tree.
 #![tactic(auto)]
 
-ghost use Rattle.std.specs.Prelude.{◌≡◌, ◌<◌, length};
+ghost use Rattle.std.specs.Prelude.{◌≡◌, ◌<◌};
 ghost use Rattle.marks.specs.Bits.{two, more};
 ghost use Rattle.marks.specs.Promises.{BlankMeets, TwoAtMeets, AddOneMeets};
 
 // The two bits of an entry at place k.
+#[tactic(auto, unfolding(crate::specs::Bits::two))]
 fn two_of(entry: u16, k: usize) -> u16
     requires { k < 4 }
     ensures { result ≡ two entry k }
@@ -24,21 +25,16 @@ fn more_of(entry: u16, k: usize) -> u16
 }
 
 // The table with zeros alone.
-pub fn blank(table: &mut [u16])
-    requires { length table.old ≡ 512 }
+pub fn blank(table: &mut [u16; 512])
     ensures { BlankMeets table.new }
 {
-    let n = table.len();
-    let mut i: usize = 0;
-    while i < n {
-        table[i] = 0;
-        i += 1;
-    }
+    table.fill(0);
 }
 
 // The two bits of a node.
-pub fn two_at(table: &[u16], node: usize) -> u16
-    requires { (length table.now ≡ 512) × (node < 2048) }
+#[tactic(auto, unfolding(crate::specs::Bits::two_at_lem))]
+pub fn two_at(table: &[u16; 512], node: usize) -> u16
+    requires { node < 2048 }
     ensures { TwoAtMeets table.now node result }
 {
     let w = node / 4;
@@ -47,8 +43,8 @@ pub fn two_at(table: &[u16], node: usize) -> u16
 
 // One more at a node that has at most one yet; at another nothing is done.
 #[tactic(auto, unfolding(crate::specs::Bits::two_at_lem, trees::specs::Lists::pick))]
-pub fn add_one(table: &mut [u16], node: usize) -> bool
-    requires { (length table.old ≡ 512) × (node < 2048) }
+pub fn add_one(table: &mut [u16; 512], node: usize) -> bool
+    requires { node < 2048 }
     ensures { AddOneMeets table.old node result table.new }
 {
     let w = node / 4;

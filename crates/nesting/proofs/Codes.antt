@@ -4,7 +4,6 @@ use native.Mathlib.Omega.{arith}
 use native.Mathlib.Decide.{ℕ_discrete, dec_lt}
 use mathlib.Core.Path.{◌≡◌, refl, sym, ap, ◌∙◌}
 use mathlib.Core.Logic.{◌⊎◌, inl, inr, ◌≢◌}
-use mathlib.Core.Bool.{Bool, true, false, ◌&&◌, not}
 use mathlib.Core.List.{List, [], ◌∷◌}
 use lib.ListN.{length, get_or, set, replicate, length-set, length-replicate, get_or-replicate}
 use lib.Seq.{get_or-set_same, get_or-set_other}
@@ -17,7 +16,6 @@ use Rattle.trees.specs.Sound.{SoundTree}
 use Rattle.trees.specs.Rulings.{accepted, each, verdict, fine, done, and}
 use Rattle.trees.proofs.Rulings.{ruling_passes}
 use Rattle.trees.proofs.Lists.{only, total_keep, total_more, total_none}
-use Rattle.trees.proofs.Bools.{true_T}
 use Rattle.trees.proofs.Lines.{up_at}
 use Rattle.trees.proofs.Kids.{kids_two, kid_first, kid_second}
 use Rattle.histories.specs.Legal.{Apart}
@@ -75,17 +73,6 @@ code_three d e t q =
 ahead_is : (a b r : ℕ) → a ≤ 2047 → b ≤ 2047 → r ≤ 2047 → ahead_of a b < r → ahead_of a b + b ≡ a
 unfolding ahead_of
 ahead_is a b r x y z h = omega arith
-
--- the test of one label and sum tells whether a speciation has the sum 3
-pub split_right : (k s : ℕ) → (eqb k 1 && not (eqb s 3)) ≡ false → k ≡ 1 → s ≡ 3
-split_right k s t e = elim (ℕ_discrete s 3) [ yes z ↦ z | no n ↦ let z : ◌≡◌ {A = Bool} true false = rw (eq-eqb k 1 e, ne_eqb s 3 n) at t in absurd (true_T (sym z)) ]
-
-pub split_wrong : (k s : ℕ) → (eqb k 1 && not (eqb s 3)) ≡ true → (k ≡ 1 → s ≡ 3) → ⊥
-split_wrong k s t f =
-    elim (ℕ_discrete k 1) [
-      | yes e ↦ true_T {b = false} (rw (eq-eqb k 1 e, eq-eqb s 3 (f e)) at t)
-      | no n ↦ true_T {b = false} (rw (ne_eqb k 1 n) at t)
-    ]
 
 -- ---- the codes added up
 

@@ -6,6 +6,8 @@ use mathlib.Core.Path.{◌≡◌, sym, ◌∙◌}
 use mathlib.Core.List.{List, ◌++◌}
 use lib.ListN.{length, get_or, set, take, drop, replicate, length-set, length-replicate, get_or-replicate, length-append, length-drop}
 use lib.Seq.{get_or-set_same, get_or-set_other, length-take-le, take-append_seam}
+use Rattle.std.specs.Prelude.{Option, Some, None}
+use Rattle.trees.specs.Lists.{lowest}
 use Rattle.trees.specs.Trees.{up, kid}
 use Rattle.trees.specs.Rules.{reaching}
 use Rattle.trees.specs.Sound.{SoundTree}
@@ -34,13 +36,12 @@ moved_more spots pl mv g h f j l =
     elim (ℕ_discrete j g) [ yes e ↦ rw e (get_or-set_same mv g v 0 h) | no n ↦ get_or-set_other mv g j v 0 n ∙ f j (omega arith) ]
 
 -- in a tree no node is lost
-pub put : {par pl copy mv tax spots : List ℕ} {r : ℕ} → SoundTree par tax → OrderMeets par spots copy r → Moved spots pl mv → Put par pl copy mv
-put {par} {spots = spots} S O M =
-    record {
-      spots = spots;
-      ordered = O.ordered (O.answer ∙ lowest_none (reaching par) (length par) (λ x h. (reaching_is par (sound_fits S) x).1 (S.root, is_root_top par S.root S.root_up, below_root S x h)));
-      moved = M;
-    }
+none_lost : {par tax : List ℕ} → SoundTree par tax → lowest (reaching par) (length par) ≡ length par
+none_lost {par} S = lowest_none (reaching par) (length par) (λ x h. (reaching_is par (sound_fits S) x).1 (S.root, is_root_top par S.root S.root_up, below_root S x h))
+
+pub put : {par pl copy mv tax spots : List ℕ} (r : Option ℕ) → SoundTree par tax → OrderMeets par spots copy r → Moved spots pl mv → Put par pl copy mv
+put (Some x) S O M = absurd (omega (arith, O.answer.0, O.answer.1, none_lost S))
+put {spots = spots} None S O M = record { spots = spots; ordered = O.ordered; moved = M }
 
 module _ {sp gp pl lb copy mv : List ℕ} (Q : Nestable sp gp pl lb) (P : Put sp pl copy mv) (m : length mv ≡ length gp) where
   abbrev σ : ℕ → ℕ
@@ -87,16 +88,16 @@ module _ {copy gp mv lb start run turn : List ℕ} {p : ℕ} (C : Copied copy p 
   few : length (take p copy) ≤ 2047
   few = C.nestable.species.1.few
 
-  pub copied_unshared : Unshared (take p copy) (set start 0 0) run turn
-  copied_unshared =
+  pub copied_unshared : length start ≡ 2047 → length run ≡ 2047 → length turn ≡ 2047 → Unshared (take p copy) (set start 0 0) run turn
+  copied_unshared s r t =
       let some : 1 ≤ length (take p copy) = C.nestable.species.1.some in
       record {
         tree = C.nestable.species;
         first = C.first;
-        off_room = omega (arith, few, length-set start 0 0, C.start_size);
-        run_room = omega (arith, few, C.run_size);
-        turn_room = omega (arith, few, C.turn_size);
-        top = get_or-set_same start 0 0 0 (omega (arith, C.start_size));
+        off_room = omega (arith, few, length-set start 0 0);
+        run_room = omega (arith, few);
+        turn_room = omega (arith, few);
+        top = get_or-set_same start 0 0 0 (omega arith);
         ones = λ j l. C.ones j (omega (arith, few));
       }
 
@@ -136,17 +137,14 @@ module _ {sp gp pl lb : List ℕ} (Q : Nestable sp gp pl lb) where
 
   -- and once the copy is in order
   pub put_copied : {part moved : List ℕ} → Put sp pl part moved → length moved ≡ length gp
-      → (copy mv start turn : List ℕ) → take (length sp) copy ≡ part → mv ≡ moved → length copy ≡ 2047 → length start ≡ 2047 → length turn ≡ 2047
+      → (copy mv start turn : List ℕ) → take (length sp) copy ≡ part → mv ≡ moved → length copy ≡ 2047
       → Copied copy (length sp) gp mv lb start (replicate 2047 1) turn
-  put_copied {part} P m copy mv start turn e f c s t =
+  put_copied {part} P m copy mv start turn e f c =
       record {
         size = c;
         part = rw e P.ordered.same.size;
         nestable = rw (e, f) (moved_nestable Q P m);
         first = rw e P.ordered.first;
-        start_size = s;
-        run_size = length-replicate {A = ℕ} 2047 1;
-        turn_size = t;
         ones = λ j l. get_or-replicate {A = ℕ} 2047 j 1 0 l;
       }
 

@@ -48,6 +48,10 @@ sum_set l (suc i) u v h b =
       | no e ↦ omega (arith, m, n, sum_set l i u v (omega arith) b, get_or-set_other l u i v 0 (omega arith))
     ]
 
+-- a node's parent comes before it
+pub parent_low : {par : List ℕ} → ParentsFirst par → (i : ℕ) → 0 < i → i < length par → get_or par i 0 < i
+parent_low {par} F i a b = parent_in par i b (F.order i a b)
+
 -- ---- the runs are shared out, from the last node to the first
 
 pub shared_start : {par off run turn : List ℕ} → Unshared par off run turn → Shared par (length par) off run turn

@@ -33,7 +33,4 @@ pub record Copied (copy : List ℕ) (p : ℕ) (gp mv lb start run turn : List �
   pub part : length (take p copy) ≡ p
   pub nestable : Nestable (take p copy) gp mv lb
   pub first : ParentsFirst (take p copy)
-  pub start_size : length start ≡ 2047
-  pub run_size : length run ≡ 2047
-  pub turn_size : length turn ≡ 2047
   pub ones : (j : ℕ) → j < 2047 → get_or run j 0 ≡ 1

@@ -2,7 +2,7 @@
 --   JudgeNestingMeets .. r <-> r is refusal 10 at the lowest gene node that fails its test, else 11, else sound
 -- Assumes nothing.
 use Rattle.std.specs.Prelude.{ℕ, List}
-use Rattle.trees.specs.declared.Judged.{Judged}
+use Rattle.trees.specs.Answers.{Judged}
 use Rattle.sides.specs.Promises.{JudgeSidesMeets}
 
 abbrev pub JudgeNestingMeets : List ℕ → List ℕ → List ℕ → List ℕ → Judged → Type 0

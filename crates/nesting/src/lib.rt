@@ -11,13 +11,15 @@ ghost use Rattle.nesting.specs.Codes.{ahead_of, side_code_lem, Codable, Coded, S
 ghost use Rattle.nesting.specs.Moving.{Movable, Moved, Placeable, Put, Copied};
 ghost use Rattle.nesting.specs.Promises.{JudgeNestingMeets};
 
-use trees::Judged;
+use positions::Positions;
+use trees::Refusal;
 
 // How far position a lies after b; if it does not, more than any run is long.
+#[tactic(auto, unfolding(crate::specs::Codes::ahead_of))]
 fn ahead_of(a: u16, b: u16) -> u16
     ensures { result ≡ ahead_of a b }
 {
-    ((65536 + (a as u32) - (b as u32)) % 65536) as u16
+    a.wrapping_sub(b)
 }
 
 // On which side of a node with this turn a position lies that is d after the node's own: 0 neither, 1 or 2.
@@ -26,38 +28,34 @@ fn side_code(d: u16, turn: u16) -> u16
 {
     if d == 0 {
         0
+    } else if d < turn {
+        1
     } else {
-        if d < turn { 1 } else { 2 }
+        2
     }
 }
 
 // Does every gene node lie inside the run of its parent's place? Then the table has the codes of each node's children added up.
-fn all_inside(
+fn all_inside<const N: usize>(
     gene_parents: &[u16],
     places: &[u16],
-    starts: &[u16],
-    runs: &[u16],
-    turns: &[u16],
+    at: &Positions<N>,
     sides: &mut [u16],
 ) -> bool
-    requires { Codable gene_parents.now places.now starts.now runs.now turns.now sides.old }
-    ensures { T result → Coded gene_parents.now places.now starts.now runs.now turns.now sides.new }
+    requires { Codable gene_parents.now places.now at.now.starts at.now.runs at.now.turns sides.old }
+    ensures { T result → Coded gene_parents.now places.now at.now.starts at.now.runs at.now.turns sides.new }
 {
     let q = gene_parents.len();
-    let mut c: usize = 0;
-    while c < q {
+    for c in 0..q {
         let u = gene_parents[c] as usize;
-        if q <= u {
-            c += 1;
-        } else {
+        if u < q {
             let a = places[u] as usize;
             let x = places[c] as usize;
-            let d = ahead_of(starts[x], starts[a]);
-            if runs[a] <= d {
+            let d = ahead_of(at.starts[x], at.starts[a]);
+            if at.runs[a] <= d {
                 return false;
             }
-            sides[u] = sides[u] + side_code(d, turns[a]);
-            c += 1;
+            sides[u] += side_code(d, at.turns[a]);
         }
     }
     true
@@ -67,7 +65,7 @@ fn all_inside(
 fn unsplit(kind: u16, side: u16) -> u16
     ensures { (result ≤ 1) × ((result ≡ 0) ↔ (kind ≡ 1 → side ≡ 3)) }
 {
-    if (kind == 1) & (side != 3) { 1 } else { 0 }
+    u16::from((kind == 1) & (side != 3))
 }
 
 // Do the codes of each speciation's children add up to 3, so that one child is on either side?
@@ -76,83 +74,44 @@ fn all_split(labels: &[u16], sides: &[u16], q: usize) -> bool
     ensures { T result → (g : ℕ) → g < q → SplitAt labels.now sides.now g }
 {
     let mut wrong: u16 = 0;
-    let mut g: usize = 0;
-    while g < q {
-        wrong = wrong + unsplit(labels[g], sides[g]);
-        g += 1;
+    for g in 0..q {
+        wrong += unsplit(labels[g], sides[g]);
     }
     wrong == 0
 }
 
 // Do all gene nodes pass both tests?
-fn all_nested(
+fn all_nested<const N: usize>(
     gene_parents: &[u16],
     places: &[u16],
     labels: &[u16],
-    starts: &[u16],
-    runs: &[u16],
-    turns: &[u16],
+    at: &Positions<N>,
     sides: &mut [u16],
 ) -> bool
-    requires { Codable gene_parents.now places.now starts.now runs.now turns.now sides.old × (length gene_parents.now ≤ length labels.now) }
-    ensures { T result → Spread gene_parents.now places.now labels.now starts.now runs.now turns.now }
+    requires { Codable gene_parents.now places.now at.now.starts at.now.runs at.now.turns sides.old × (length gene_parents.now ≤ length labels.now) }
+    ensures { T result → Spread gene_parents.now places.now labels.now at.now.starts at.now.runs at.now.turns }
 {
-    if !all_inside(gene_parents, places, starts, runs, turns, sides) {
-        return false;
-    }
-    all_split(labels, sides, gene_parents.len())
+    all_inside(gene_parents, places, at, sides) && all_split(labels, sides, gene_parents.len())
 }
 
-// The quick test for trees of at most 255 nodes: 2,040 bytes of tables on the stack.
-fn nested_small(
+// The quick test for trees of at most N nodes: eight bytes of tables on the stack for each.
+fn nested_in<const N: usize>(
     species_parents: &[u16],
     gene_parents: &[u16],
     places: &[u16],
     labels: &[u16],
 ) -> bool
-    requires { Nestable species_parents.now gene_parents.now places.now labels.now × (length species_parents.now ≤ 255) × (length gene_parents.now ≤ 255) × ParentsFirst species_parents.now }
+    requires { Nestable species_parents.now gene_parents.now places.now labels.now × (length species_parents.now ≤ N) × (length gene_parents.now ≤ N) × (N ≤ 2047) × ParentsFirst species_parents.now }
     ensures { T result → Nests species_parents.now gene_parents.now places.now labels.now }
 {
-    let mut starts = [0u16; 255];
-    let mut runs = [1u16; 255];
-    let mut turns = [0u16; 255];
-    let mut sides = [0u16; 255];
-    positions::place_nodes(species_parents, &mut starts, &mut runs, &mut turns);
-    all_nested(
-        gene_parents,
-        places,
-        labels,
-        &starts,
-        &runs,
-        &turns,
-        &mut sides,
-    )
-}
-
-// The quick test for trees of any size: 16,376 bytes of tables on the stack.
-fn nested_large(
-    species_parents: &[u16],
-    gene_parents: &[u16],
-    places: &[u16],
-    labels: &[u16],
-) -> bool
-    requires { Nestable species_parents.now gene_parents.now places.now labels.now × ParentsFirst species_parents.now }
-    ensures { T result → Nests species_parents.now gene_parents.now places.now labels.now }
-{
-    let mut starts = [0u16; 2047];
-    let mut runs = [1u16; 2047];
-    let mut turns = [0u16; 2047];
-    let mut sides = [0u16; 2047];
-    positions::place_nodes(species_parents, &mut starts, &mut runs, &mut turns);
-    all_nested(
-        gene_parents,
-        places,
-        labels,
-        &starts,
-        &runs,
-        &turns,
-        &mut sides,
-    )
+    let mut at = Positions {
+        starts: [0u16; N],
+        runs: [1u16; N],
+        turns: [0u16; N],
+    };
+    let mut sides = [0u16; N];
+    at.place_nodes(species_parents);
+    all_nested(gene_parents, places, labels, &at, &mut sides)
 }
 
 // The places by the positions of the species nodes, into a table of as many entries as there are gene nodes.
@@ -160,25 +119,9 @@ fn move_places(spots: &[u16], places: &[u16], moved: &mut [u16])
     requires { Movable spots.now places.now moved.old }
     ensures { Moved spots.now places.now moved.new }
 {
-    let q = moved.len();
-    let mut g: usize = 0;
-    while g < q {
+    for (g, spot) in moved.iter_mut().enumerate() {
         let s = places[g] as usize;
-        moved[g] = spots[s];
-        g += 1;
-    }
-}
-
-// A table with zeros alone.
-fn clear(table: &mut [u16])
-    requires { length table.old ≡ 2047 }
-    ensures { (k : ℕ) → k < 2047 → get_or table.new k 0 ≡ 0 }
-{
-    let n = table.len();
-    let mut k: usize = 0;
-    while k < n {
-        table[k] = 0;
-        k += 1;
+        *spot = spots[s];
     }
 }
 
@@ -194,7 +137,7 @@ fn put_in_order(
     requires { Placeable species_parents.now places.now copy.old moved.old spots.old way.old }
     ensures { Put species_parents.now places.now copy.new moved.new }
 {
-    orders::order(species_parents, spots, copy, way);
+    let _ = orders::order(species_parents, spots, copy, way);
     move_places(spots, places, moved);
 }
 
@@ -205,17 +148,15 @@ fn nested_copy(
     gene_parents: &[u16],
     moved: &[u16],
     labels: &[u16],
-    starts: &mut [u16],
-    runs: &mut [u16],
-    turns: &mut [u16],
+    at: &mut Positions<2047>,
 ) -> bool
-    requires { Copied copy.old p gene_parents.now moved.now labels.now starts.old runs.old turns.old }
+    requires { Copied copy.old p gene_parents.now moved.now labels.now at.old.starts at.old.runs at.old.turns }
     ensures { T result → Nests (take p copy.old) gene_parents.now moved.now labels.now }
 {
-    starts[0] = 0;
-    positions::place_nodes(&copy[..p], starts, runs, turns);
-    clear(copy);
-    all_nested(gene_parents, moved, labels, starts, runs, turns, copy)
+    at.starts[0] = 0;
+    at.place_nodes(&copy[..p]);
+    copy.fill(0);
+    all_nested(gene_parents, moved, labels, at, copy)
 }
 
 // The quick test for a species table in any order: a copy of it is put in order. Three of the five tables on the stack, 20,470 bytes in
@@ -233,31 +174,27 @@ fn nested_shuffled(
     let q = gene_parents.len();
     let mut copy = [0u16; 2047];
     let mut moved = [0u16; 2047];
-    let mut starts = [0u16; 2047];
-    let mut runs = [1u16; 2047];
-    let mut turns = [65535u16; 2047];
+    let mut at = Positions {
+        starts: [0u16; 2047],
+        runs: [0u16; 2047],
+        turns: [65535u16; 2047],
+    };
+    at.runs.fill(1);
     put_in_order(
         species_parents,
         places,
         &mut copy[..p],
         &mut moved[..q],
-        &mut turns[..p],
-        &mut starts[..p],
+        &mut at.turns[..p],
+        &mut at.starts[..p],
     );
-    nested_copy(
-        &mut copy,
-        p,
-        gene_parents,
-        &moved[..q],
-        labels,
-        &mut starts,
-        &mut runs,
-        &mut turns,
-    )
+    nested_copy(&mut copy, p, gene_parents, &moved[..q], labels, &mut at)
 }
 
 // Do rules 10 and 11 hold everywhere? A yes is certain. Most trees are small, and for them small tables are made. A small release in
-// any order, and a large one with few genes, it is not worth while to put in order: no is said at once, and the searches do the rest.
+// any order, and a large one with few genes, it is not worth while to put in order: no is said at once, and the searches do the rest. It is
+// kept a function of its own in the machine code, so that its tables are off the stack when they begin.
+#[inline(never)]
 fn surely_nested(
     species_parents: &[u16],
     gene_parents: &[u16],
@@ -269,9 +206,9 @@ fn surely_nested(
 {
     if roots::in_order(species_parents) {
         if species_parents.len() <= 255 && gene_parents.len() <= 255 {
-            return nested_small(species_parents, gene_parents, places, labels);
+            return nested_in::<255>(species_parents, gene_parents, places, labels);
         }
-        return nested_large(species_parents, gene_parents, places, labels);
+        return nested_in::<2047>(species_parents, gene_parents, places, labels);
     }
     if species_parents.len() <= 255 || 8 * gene_parents.len() < species_parents.len() {
         return false;
@@ -286,12 +223,12 @@ pub fn judge_nesting(
     gene_parents: &[u16],
     places: &[u16],
     labels: &[u16],
-) -> Judged
+) -> Result<(), Refusal>
     requires { Nestable species_parents.now gene_parents.now places.now labels.now }
     ensures { JudgeNestingMeets species_parents.now gene_parents.now places.now labels.now result }
 {
     if surely_nested(species_parents, gene_parents, places, labels) {
-        return Judged::Sound;
+        return Ok(());
     }
     sides::judge_sides(species_parents, gene_parents, places, labels)
 }

@@ -2,42 +2,49 @@
 // have a run of positions, which starts with the node's own.
 ghost use Rattle.nesting.specs.Runs.{Unshared, Shared, Offsets, Settled, Laid};
 
-// How long each node's run is, and where in its parent's it starts, from the last node to the first: children come after their
-// parent, so a node's own run is known when it is added to its parent's. A node's turn is where the run of its first child starts.
-fn share_runs(parents: &[u16], starts: &mut [u16], runs: &mut [u16], turns: &mut [u16])
-    requires { Unshared parents.now starts.old runs.old turns.old }
-    ensures { Shared parents.now 1 starts.new runs.new turns.new }
-{
-    let mut i = parents.len();
-    while 1 < i {
-        i -= 1;
-        let u = parents[i] as usize;
-        let s = runs[u];
-        starts[i] = s;
-        turns[u] = s;
-        runs[u] = s + runs[i];
+// Where each node's run starts, how long it is, and where in it the run of the node's first child starts, which is the node's turn.
+#[derive(Drop)]
+pub(crate) struct Positions<const N: usize> {
+    pub(crate) starts: [u16; N],
+    pub(crate) runs: [u16; N],
+    pub(crate) turns: [u16; N],
+}
+
+impl<const N: usize> Positions<N> {
+    // How long each node's run is, and where in its parent's it starts, from the last node to the first: children come after their
+    // parent, so a node's own run is known when it is added to its parent's.
+    #[tactic(auto, using(crate::proofs::Runs::parent_low))]
+    fn share_runs(&mut self, parents: &[u16])
+        requires { Unshared parents.now self.old.starts self.old.runs self.old.turns }
+        ensures { Shared parents.now 1 self.new.starts self.new.runs self.new.turns }
+    {
+        for i in (1..parents.len()).rev() {
+            let u = parents[i] as usize;
+            let s = self.runs[u];
+            self.starts[i] = s;
+            self.turns[u] = s;
+            self.runs[u] = s + self.runs[i];
+        }
+    }
+
+    // Positions for all nodes, into tables that have room for them: 0 in the first and 1 in the second for each.
+    pub(crate) fn place_nodes(&mut self, parents: &[u16])
+        requires { Unshared parents.now self.old.starts self.old.runs self.old.turns }
+        ensures { Laid parents.now self.new.starts self.new.runs self.new.turns }
+    {
+        self.share_runs(parents);
+        place_runs(parents, &mut self.starts);
     }
 }
 
 // Where each node's run starts, once it is known where in its parent's run it starts.
+#[tactic(auto, using(crate::proofs::Runs::parent_low))]
 fn place_runs(parents: &[u16], starts: &mut [u16])
     requires { Offsets parents.now starts.old }
     ensures { Settled parents.now starts.old starts.new }
 {
-    let n = parents.len();
-    let mut i: usize = 1;
-    while i < n {
+    for i in 1..parents.len() {
         let u = parents[i] as usize;
-        starts[i] = starts[i] + starts[u];
-        i += 1;
+        starts[i] += starts[u];
     }
-}
-
-// Positions for all nodes, into tables that have room for them: 0 in the first and 1 in the second for each.
-pub(crate) fn place_nodes(parents: &[u16], starts: &mut [u16], runs: &mut [u16], turns: &mut [u16])
-    requires { Unshared parents.now starts.old runs.old turns.old }
-    ensures { Laid parents.now starts.new runs.new turns.new }
-{
-    share_runs(parents, starts, runs, turns);
-    place_runs(parents, starts);
 }

@@ -1,17 +1,15 @@
 -- What the reader finds from a place of the text on, one byte at a time. Assumes nothing.
-use Prim.Native.Nat.{ℕ, ◌+◌, ◌≤◌, ◌<◌}
+use Prim.Native.Nat.{ℕ, ◌+◌, ◌-◌, ◌≤◌, ◌<◌}
 use native.Mathlib.Omega.{arith}
-use native.Mathlib.Numerals.{add-one}
-use native.Mathlib.Nat.{add-zero}
 use native.Mathlib.Decide.{dec_lt}
-use mathlib.Core.Path.{◌≡◌, sym, ◌∙◌}
+use mathlib.Core.Path.{◌≡◌, refl, sym, ◌∙◌}
 use mathlib.Core.Logic.{inl, inr}
 use mathlib.Core.Bool.{true, false, not}
 use mathlib.Core.List.{List, [], ◌∷◌}
-use lib.ListN.{length, get_or, drop, drop_of_length-le, length-drop}
-use lib.Seq.{drop-cons, drop-drop}
+use lib.ListN.{length, get_or, take, drop, drop_of_length-le, length-drop}
+use lib.Seq.{drop-cons, drop-drop, take-length, length-take-le}
 use lib.Dec.{T}
-use borrow.Author.Tests.{not-true}
+use Rattle.std.specs.List.{prefix_len, take_while}
 use Rattle.trees.specs.Lists.{pick}
 use Rattle.trees.proofs.Bools.{test, true_T, clash}
 use Rattle.numbers.specs.Numbers.{value, is_number}
@@ -19,6 +17,12 @@ use Rattle.numbers.specs.Words.{blank, opens, words}
 use Rattle.numbers.specs.Cursor.{gap, word_of, past_blanks, found, nothing, number_at, number_from}
 use Rattle.numbers.proofs.Digits.{number_is}
 use Rattle.numbers.proofs.Words.{word_opens, word_few, words_opens, gap_words, gap_few, first_word}
+
+-- the blanks that a text begins with
+gap_prefix : (l : List ℕ) → gap l ≡ prefix_len blank l
+unfolding gap pick
+gap_prefix [] = refl
+gap_prefix (b ∷ l) = elim (test (blank b)) [ inl e ↦ rw (e, gap_prefix l) (omega arith) | inr e ↦ rw e ]
 
 module _ (text : List ℕ) where
   -- ---- does a word go on here?
@@ -31,6 +35,9 @@ module _ (text : List ℕ) where
   unfolding opens
   opens_at i h = rw (drop-cons text i 0 h)
 
+  pub opens_blank : (i : ℕ) → i < length text → blank (get_or text i 0) ≡ true → opens (drop i text) ≡ false
+  opens_blank i h e = rw (opens_at i h, e)
+
   pub opens_inside : (i : ℕ) → opens (drop i text) ≡ true → i < length text
   opens_inside i e =
       elim (dec_lt i (length text)) [
@@ -38,22 +45,14 @@ module _ (text : List ℕ) where
         | no h ↦ let f : opens (drop i text) ≡ false = opens_end i (omega arith) in clash (cc)
       ]
 
-  pub opens_solid : (i : ℕ) → opens (drop i text) ≡ true → blank (get_or text i 0) ≡ false
-  opens_solid i e = not-true (blank (get_or text i 0)) (sym (opens_at i (opens_inside i e)) ∙ e)
-
   -- ---- past the blanks
 
-  pub past_end : (i : ℕ) → length text ≤ i → past_blanks text i ≡ i
-  unfolding past_blanks gap
-  past_end i h = rw (drop_of_length-le text h) (add-zero i)
-
-  pub past_here : (i : ℕ) → i < length text → blank (get_or text i 0) ≡ false → past_blanks text i ≡ i
-  unfolding past_blanks gap pick
-  past_here i h e = rw (drop-cons text i 0 h, e) (add-zero i)
-
-  pub past_blank : (i : ℕ) → i < length text → blank (get_or text i 0) ≡ true → past_blanks text i ≡ past_blanks text (i + 1)
-  unfolding past_blanks gap pick
-  past_blank i h e = rw (add-one i, drop-cons text i 0 h, e) (omega arith)
+  -- as many places as there are blanks in a row
+  pub past_count : (at n : ℕ) → n ≡ length (take_while blank (take (length text - at) (drop at text))) → at + n ≡ past_blanks text at
+  unfolding past_blanks
+  past_count at n e =
+      let rest = drop at text in
+      rw (e, ← length-drop at text, take-length rest, ← gap_prefix rest, length-take-le (gap rest) rest (gap_few rest))
 
   pub past_inside : (i : ℕ) → i ≤ length text → past_blanks text i ≤ length text
   unfolding past_blanks

@@ -4,7 +4,7 @@ use native.Mathlib.Omega.{arith}
 use native.Mathlib.Numerals.{add-one}
 use native.Mathlib.Decide.{dec_lt}
 use mathlib.Core.Path.{◌≡◌, refl, sym, ap, ◌∙◌}
-use mathlib.Core.Bool.{true, false, ◌&&◌}
+use mathlib.Core.Bool.{false, ◌&&◌}
 use mathlib.Core.List.{List, [], ◌∷◌, ◌++◌, append-nil, append_assoc}
 use lib.ListN.{length, get_or, drop, length-append}
 use lib.Seq.{drop-cons}
@@ -17,7 +17,6 @@ use Rattle.numbers.specs.Words.{blank, opens}
 use Rattle.numbers.specs.Cursor.{word_of, found, nothing, number_at}
 use Rattle.numbers.proofs.Digits.{digit_low, all_head, all_tail, all_append, all_fails, value_more, value_small, is_number_fits, empty_none, long_none, odd_none}
 use Rattle.numbers.proofs.Words.{word_none, word_some}
-use Rattle.numbers.proofs.Cursor.{opens_inside, opens_solid}
 
 digit_solid : (b : ℕ) → T (digit b) → blank b ≡ false
 unfolding blank
@@ -97,7 +96,7 @@ module _ (text : List ℕ) (at : ℕ) where
 
 -- the same as a loop keeps it: behind ten digits no word that goes on is a number
 abbrev pub TooLong : List ℕ → ℕ → ℕ → Type 0
-TooLong text at i = opens (drop i text) ≡ true → 10 ≤ i - at → nothing ≡ number_at text at
+TooLong text at i = i < length text → blank (get_or text i 0) ≡ false → 10 ≤ i - at → nothing ≡ number_at text at
 
 pub spelled_on : (text : List ℕ) (at i v : ℕ) → Spelled text at i v → TooLong text at i
-spelled_on text at i v S o f = sym (spelled_long text at i v S (opens_inside text i o) (opens_solid text i o) f)
+spelled_on text at i v S h e f = sym (spelled_long text at i v S h e f)

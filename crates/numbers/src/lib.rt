@@ -1,100 +1,80 @@
 // Decimal numbers in a text, read from a place of it on. One pass: a place is handed on, and never goes back.
 #![tactic(auto)]
 
-ghost use Rattle.std.specs.Prelude.{◌≡◌, ◌≤◌, ◌^◌, ◌&&◌, length, drop, ltb};
+ghost use Rattle.std.specs.Prelude.{◌≡◌, ◌≤◌, ◌^◌, ◌&&◌, length, ltb};
+ghost use Rattle.std.specs.List.{take_while};
 ghost use Rattle.trees.specs.Lists.{pick};
-ghost use Rattle.numbers.specs.Numbers.{digit};
-ghost use Rattle.numbers.specs.Words.{blank, opens};
+ghost use Rattle.numbers.specs.Words.{blank};
 ghost use Rattle.numbers.specs.Cursor.{found, nothing, number_at};
 ghost use Rattle.numbers.specs.Promises.{number_of, SkipBlanksMeets, ReadNumberMeets};
 
-// A number and the place behind it, or none.
+// A number, and the place behind it.
 #[derive(Clone, Copy)]
-pub enum Number {
-    Read { value: u32, next: usize },
-    Malformed,
+pub struct Number {
+    pub value: u32,
+    pub next: usize,
 }
 
 // A separator: a space or a line feed.
+#[tactic(auto, unfolding(crate::specs::Words::blank))]
 fn is_blank(byte: u8) -> bool
     ensures { result ≡ blank byte }
 {
-    byte == 32 || byte == 10
+    byte == b' ' || byte == b'\n'
 }
 
-// A decimal digit.
-fn is_digit(byte: u8) -> bool
-    ensures { result ≡ digit byte }
+// How many blanks a text begins with.
+fn blanks(text: &[u8]) -> usize
+    ensures { result ≡ length (take_while blank text.now) }
 {
-    48 <= byte && byte <= 57
-}
-
-// Does a word go on at this place? Not at a blank, and not at the end.
-fn in_word(text: &[u8], at: usize) -> bool
-    requires { at ≤ length text.now }
-    ensures { result ≡ opens (drop at text.now) }
-{
-    if at == text.len() {
-        return false;
-    }
-    !is_blank(text[at])
+    text.iter().take_while(|&&byte| is_blank(byte)).count()
 }
 
 // The first place from `at` on with no blank, or the end.
+#[tactic(auto, using(crate::proofs::Cursor::past_count))]
 pub fn skip_blanks(text: &[u8], at: usize) -> usize
     requires { at ≤ length text.now }
     ensures { SkipBlanksMeets text.now at result }
 {
-    let mut i = at;
-    while i < text.len() {
-        if is_blank(text[i]) {
-            i += 1;
-        } else {
-            return i;
-        }
-    }
-    i
+    at + blanks(&text[at..])
 }
 
 // A word of digits from `at` up to `end` that spells `value`: a number if there is a digit and the value fits 32 bits.
-fn closed(value: u64, at: usize, end: usize) -> Number
+#[tactic(auto, unfolding(trees::specs::Lists::pick))]
+fn closed(value: u64, at: usize, end: usize) -> Option<Number>
     ensures { number_of result ≡ pick (ltb at end && ltb value (2 ^ 32)) (found value end) nothing }
 {
     if end <= at {
-        return Number::Malformed;
+        return None;
     }
-    if 4294967295 < value {
-        return Number::Malformed;
-    }
-    Number::Read {
-        value: value as u32,
-        next: end,
-    }
+    let value = u32::try_from(value).ok()?;
+    Some(Number { value, next: end })
 }
 
 // The word that begins at `at`, up to a blank or the end.
-fn read_word(text: &[u8], at: usize) -> Number
+fn read_word(text: &[u8], at: usize) -> Option<Number>
     requires { at ≤ length text.now }
     ensures { number_of result ≡ number_at text.now at }
 {
     let mut value: u64 = 0;
-    let mut i = at;
-    while in_word(text, i) {
+    for i in at..text.len() {
         let byte = text[i];
-        if !is_digit(byte) {
-            return Number::Malformed;
+        if is_blank(byte) {
+            return closed(value, at, i);
+        }
+        if !byte.is_ascii_digit() {
+            return None;
         }
         if 10 <= i - at {
-            return Number::Malformed;
+            return None;
         }
-        value = 10 * value + (byte - 48) as u64;
-        i += 1;
+        value = 10 * value + u64::from(byte - b'0');
     }
-    closed(value, at, i)
+    closed(value, at, text.len())
 }
 
 // The first word from `at` on.
-pub fn read_number(text: &[u8], at: usize) -> Number
+pub fn read_number(text: &[u8], at: usize) -> Option<Number>
     requires { at ≤ length text.now }
     ensures { ReadNumberMeets text.now at result }
 {

@@ -1,4 +1,5 @@
 -- What each step of the judge means for its ruling. Assumes nothing.
+use Rattle.std.specs.Prelude.{Ok, Err}
 use Prim.Native.Nat.{ℕ, ◌≤◌, ◌<◌}
 use native.Mathlib.Omega.{arith}
 use native.Mathlib.Decide.{ℕ_discrete}
@@ -9,14 +10,13 @@ use mathlib.Core.List.{List, [], ◌∷◌}
 use lib.ListN.{length, get_or}
 use lib.Dec.{eqb}
 use borrow.Author.Tests.{le-leb, eq-eqb}
-use Rattle.trees.specs.Rulings.{accepted, refused, Rule, whole, each, ruling, verdict, fine, number_of, tree_of, Passes, Every}
+use Rattle.trees.specs.Rulings.{accepted, refused_by, refused, Rule, whole, each, ruling, verdict, fine, number_of, tree_of, Passes, Every}
 use Rattle.trees.specs.Tables.{Pair, taxon}
 use Rattle.trees.specs.Trees.{Inner}
 use Rattle.trees.specs.Rules.{pair_rules}
 use Rattle.trees.specs.Answers.{judged_of}
 use Rattle.trees.specs.declared.Refusal.{Refusal}
-use Rattle.trees.specs.declared.Judged.{Judged}
-use Rattle.trees.specs.declared.Judged.TheVariants.{Sound, Refused}
+use Rattle.trees.specs.Answers.{Judged}
 use Rattle.trees.proofs.Bools.{true_T, or_left, or_right}
 use Rattle.trees.proofs.Lists.{lowest_same}
 use Rattle.trees.proofs.Rulings.{every_head, ruling_pass, ruling_fail, ruling_all, ruling_stays, ruling_accepted, ruling_passes, one_passed, one_same}
@@ -73,13 +73,13 @@ module _ {w : Pair} {pl lb : List ℕ} (O : Offerable w pl lb) where
 
   -- what rule 8 answers
   module _ (r : Judged) (e : JudgeFittingMeets (length w.sp) w.gt pl lb r) where
-    pub stopped_8 : (f : Refusal) → r ≡ Refused f → judged_of r ≡ verdict (descent_rules w every_node h)
+    pub stopped_8 : (f : Refusal) → r ≡ Err f → refused_by f ≡ verdict (descent_rules w every_node h)
     unfolding descent_rules
     stopped_8 f z =
-        ap judged_of z ∙ sym (ruling_stays (rule8 ∷ []) (rule9 ∷ rule10 ∷ rule11 ∷ []) fine fine f.number f.tree f.place (sym as_8 ∙ sym e ∙ ap judged_of z))
+        sym (ruling_stays (rule8 ∷ []) (rule9 ∷ rule10 ∷ rule11 ∷ []) fine fine f.number f.tree f.place (sym as_8 ∙ sym e ∙ ap judged_of z))
 
     -- it has passed
-    module _ (z : r ≡ Sound) where
+    module _ (z : r ≡ (Ok tt)) where
       passed_8 : Passes rule8
       passed_8 = every_head (ruling_accepted (rule8 ∷ []) fine fine (sym as_8 ∙ sym e ∙ ap judged_of z)).0
 
@@ -123,13 +123,12 @@ module _ {w : Pair} {pl lb : List ℕ} (O : Offerable w pl lb) where
 
       -- what rule 9 answers
       module _ (s : Judged) (d : JudgeHomesMeets w.st w.gt pl s) where
-        pub stopped_9 : (f : Refusal) → s ≡ Refused f → judged_of s ≡ verdict (descent_rules w every_node h)
+        pub stopped_9 : (f : Refusal) → s ≡ Err f → refused_by f ≡ verdict (descent_rules w every_node h)
         stopped_9 f y =
-            ap judged_of y
-            ∙ sym (past_8 ∙ ruling_stays (rule9 ∷ []) (rule10 ∷ rule11 ∷ []) fine fine f.number f.tree f.place (sym as_9 ∙ sym d ∙ ap judged_of y))
+            sym (past_8 ∙ ruling_stays (rule9 ∷ []) (rule10 ∷ rule11 ∷ []) fine fine f.number f.tree f.place (sym as_9 ∙ sym d ∙ ap judged_of y))
 
         -- it has passed: rules 10 and 11 are left
-        pub descent_rest : s ≡ Sound → (t : Judged) → JudgeSidesMeets w.sp w.gp pl lb t → judged_of t ≡ verdict (descent_rules w every_node h)
+        pub descent_rest : s ≡ (Ok tt) → (t : Judged) → JudgeSidesMeets w.sp w.gp pl lb t → judged_of t ≡ verdict (descent_rules w every_node h)
         unfolding ruling
         descent_rest y t c =
             c

@@ -6,22 +6,20 @@
 -- Assumes nothing.
 use Rattle.std.specs.Prelude.{ℕ, ◌≡◌, Bool, List}
 use Rattle.trees.specs.Rulings.{ruling, verdict}
-use Rattle.trees.specs.Tables.{pair}
-use Rattle.trees.specs.Answers.{judged_of}
-use Rattle.trees.specs.declared.Judged.{Judged}
+use Rattle.trees.specs.Tables.{Pair}
+use Rattle.trees.specs.Answers.{Judged, judged_of}
 use Rattle.histories.specs.Histories.{told, every_node}
 use Rattle.histories.specs.Rules.{descent_rules, offer_counts, offer_ruling}
-use Rattle.offers.specs.Answers.{offered_of}
-use Rattle.offers.specs.declared.Offered.{Offered}
+use Rattle.offers.specs.Answers.{Offered, offered_of}
 
 -- "8-11"
-abbrev pub JudgeRulesMeets : List ℕ → List ℕ → List ℕ → List ℕ → List ℕ → List ℕ → Bool → Judged → Type 0
-JudgeRulesMeets sp st gp gt places labels homed r = judged_of r ≡ verdict (descent_rules (pair sp st gp gt) every_node (told places labels))
+abbrev pub JudgeRulesMeets : Pair → List ℕ → List ℕ → Bool → Judged → Type 0
+JudgeRulesMeets w places labels homed r = judged_of r ≡ verdict (descent_rules w every_node (told places labels))
 
-abbrev pub JudgeDescentMeets : List ℕ → List ℕ → List ℕ → List ℕ → List ℕ → List ℕ → Offered → Type 0
-JudgeDescentMeets sp st gp gt places labels r =
-    offered_of r ≡ ruling (descent_rules (pair sp st gp gt) every_node (told places labels)) (offer_counts (pair sp st gp gt) (told places labels))
+abbrev pub JudgeDescentMeets : Pair → List ℕ → List ℕ → Offered → Type 0
+JudgeDescentMeets w places labels r =
+    offered_of r ≡ ruling (descent_rules w every_node (told places labels)) (offer_counts w (told places labels))
 
 -- "offered history 7, 8-11"
-abbrev pub JudgeOfferMeets : List ℕ → List ℕ → List ℕ → List ℕ → List ℕ → List ℕ → Offered → Type 0
-JudgeOfferMeets sp st gp gt places labels r = offered_of r ≡ offer_ruling (pair sp st gp gt) places labels
+abbrev pub JudgeOfferMeets : Pair → List ℕ → List ℕ → Offered → Type 0
+JudgeOfferMeets w places labels r = offered_of r ≡ offer_ruling w places labels

@@ -29,14 +29,6 @@ use Rattle.blocks.proofs.Both.{and_false}
 
 -- ---- 17
 
-pub size_none : (k : ℕ) → k < 1 → false ≡ in_size_lem k
-unfolding in_size_lem
-size_none k h = rw (lt-leb 1 k h)
-
-pub size_some : (k : ℕ) → 1 ≤ k → leb k 2047 ≡ in_size_lem k
-unfolding in_size_lem
-size_some k h = rw (le-leb 1 k h)
-
 -- p and q are the words' counts, n the number of blocks
 module _ (w : List ℕ) (n p q : ℕ) (e : p ≡ species_count w) (f : q ≡ gene_count w) where
   pub framed_species : in_size_lem p ≡ false → false ≡ framed n w

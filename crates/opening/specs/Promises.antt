@@ -7,7 +7,7 @@ use Rattle.blocks.specs.Blocks.{content}
 use Rattle.families.specs.Families.{gene_count}
 use Rattle.families.specs.Loading.{open_rules}
 use Rattle.opening.specs.Answers.{opened_of}
-use Rattle.opening.specs.declared.Opened.{Opened}
+use Rattle.opening.specs.Answers.{Opened}
 
 abbrev pub OpenImageMeets : List ℕ → List ℕ → List ℕ → Opened → Type 0
 OpenImageMeets sp st image r = opened_of r ≡ ruling (open_rules sp st image) (gene_count (content image))

@@ -10,35 +10,15 @@ ghost use Rattle.opening.specs.Answers.{opened_of};
 ghost use Rattle.opening.specs.Conditions.{FewBlocks, Fitted};
 ghost use Rattle.opening.specs.Promises.{OpenImageMeets};
 
-use blocks::judge::Framed;
-use trees::{Judged, Refusal, SpeciesSpot};
+use trees::{Refusal, Tree, refuse};
 use words::read;
 
-// How many gene nodes an image has, or why it is refused.
-#[derive(Clone, Copy)]
-pub enum Opened {
-    Genes(usize),
-    Refused(Refusal),
-}
-
-fn refused(number: u16, tree: u16, place: usize) -> Opened
-    ensures { result ≡ Opened.Refused (record { number = number; tree = tree; place = place }) }
-{
-    Opened::Refused(Refusal {
-        number,
-        tree,
-        place,
-    })
-}
-
 // Is k a number of nodes?
+#[tactic(auto, unfolding(families::specs::Loading::in_size_lem))]
 fn in_size(k: usize) -> bool
     ensures { result ≡ in_size_lem k }
 {
-    if k < 1 {
-        return false;
-    }
-    k <= 2047
+    1 <= k && k <= 2047
 }
 
 // 17: the counts, the number of blocks and the filling.
@@ -63,37 +43,30 @@ fn is_framed(image: &[u8]) -> bool
 
 // 16 to 18 of an image whose blocks are right.
 #[tactic(auto, using(crate::proofs::Opening::refused_16))]
-fn judge_content(species_parents: &[u16], species_taxa: &[u32], image: &[u8]) -> Opened
-    requires { Fitted species_parents.now species_taxa.now image.now }
-    ensures { opened_of result ≡ ruling (content_rules species_parents.now species_taxa.now image.now) (gene_count (content image.now)) }
+fn judge_content(species: &Tree<'_>, image: &[u8]) -> Result<usize, Refusal>
+    requires { Fitted species.now.parents.now species.now.taxa.now image.now }
+    ensures { opened_of result ≡ ruling (content_rules species.now.parents.now species.now.taxa.now image.now) (gene_count (content image.now)) }
 {
     if read::nth_word(image, 0) != 1 {
-        return refused(16, 0, 0);
+        return Err(refuse(16, 0, 0));
     }
     if !is_framed(image) {
-        return refused(17, 0, 0);
+        return Err(refuse(17, 0, 0));
     }
-    if read::nth_word(image, 1) as usize != species_parents.len() {
-        return refused(18, 1, 65535);
+    if usize::from(read::nth_word(image, 1)) != species.parents.len() {
+        return Err(refuse(18, 1, 65535));
     }
-    let spot = release::first_difference(image, 3, species_parents, species_taxa);
-    match spot {
-        SpeciesSpot::At(v) => refused(18, 1, v.0),
-        SpeciesSpot::Nowhere => Opened::Genes(read::nth_word(image, 2) as usize),
+    if let Some(v) = release::first_difference(image, 3, species) {
+        return Err(refuse(18, 1, v.0));
     }
+    Ok(usize::from(read::nth_word(image, 2)))
 }
 
 // The first of the rack's species 1 to 5 and of 13 to 18 that fails, or the number of gene nodes.
-pub fn open_image(species_parents: &[u16], species_taxa: &[u32], image: &[u8]) -> Opened
-    ensures { OpenImageMeets species_parents.now species_taxa.now image.now result }
+pub fn open_image(species: &Tree<'_>, image: &[u8]) -> Result<usize, Refusal>
+    ensures { OpenImageMeets species.now.parents.now species.now.taxa.now image.now result }
 {
-    let rack = judges::judge_rack(species_parents, species_taxa);
-    if let Judged::Refused(r) = rack {
-        return Opened::Refused(r);
-    }
-    let framed = blocks::judge::judge_blocks(image, 65);
-    if let Framed::Refused(r) = framed {
-        return Opened::Refused(r);
-    }
-    judge_content(species_parents, species_taxa, image)
+    judges::judge_rack(species)?;
+    blocks::judge::judge_blocks(image, 65)?;
+    judge_content(species, image)
 }

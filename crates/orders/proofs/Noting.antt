@@ -8,11 +8,10 @@ use mathlib.Core.Logic.{◌⊎◌, inl, inr, ◌≢◌}
 use mathlib.Core.List.{List}
 use lib.ListN.{length, get_or, set}
 use lib.Seq.{get_or-set_same, get_or-set_other}
-use lib.Dec.{T}
 use Rattle.trees.specs.Trees.{up}
 use Rattle.trees.proofs.Lines.{up_at}
 use Rattle.orders.specs.Listing.{Has, Noted, WayMeets, Listed}
-use Rattle.orders.specs.declared.Way.{Way}
+use Rattle.std.proofs.Common.{Some}
 
 pub record Noting (par way : List ℕ) (node x k : ℕ) : Type 0 where
   pub inside : (j : ℕ) → j < k → get_or way j 0 < length par
@@ -65,5 +64,5 @@ parent_listed {par} {old} {way} {k} spots i j N e l stay a =
     ]
 
 -- and in the end the node that the way began at has one
-pub way_has : {par old way spots copy : List ℕ} {x c : ℕ} {r : Way} → WayMeets par old x way r → T r.ends → Listed par old way r.count spots copy c → Has spots x
-way_has {spots = spots} {x} W t L = elim (W.first t) [ inl a ↦ L.stay x a | inr w ↦ rw w.1 at (L.first w.0) ]
+pub way_has : {par old way spots copy : List ℕ} {x k c : ℕ} → WayMeets par old x way (Some k) → Listed par old way k spots copy c → Has spots x
+way_has {spots = spots} {x} W L = elim W.first [ inl a ↦ L.stay x a | inr w ↦ rw w.1 at (L.first w.0) ]

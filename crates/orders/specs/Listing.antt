@@ -10,12 +10,11 @@
 --   Next, Done                <-> what listing a node needs and leaves
 --   Listable, Listed          <-> what listing a way needs and leaves
 -- Assumes nothing.
-use Rattle.std.specs.Prelude.{ℕ, ◌+◌, ◌≤◌, ◌<◌, ◌≡◌, ◌⊎◌, ◌≢◌, not, List, length, get_or, T, eqb, ltb}
+use Rattle.std.specs.Prelude.{ℕ, ◌+◌, ◌≤◌, ◌<◌, ◌≡◌, ◌⊎◌, ◌≢◌, not, List, Option, is_some, IfSome, length, get_or, eqb, ltb}
 use Rattle.trees.specs.Lists.{total, one, pick}
 use Rattle.trees.specs.Trees.{none, up, nodes}
 use Rattle.trees.specs.Rules.{reaching}
 use Rattle.roots.specs.Ways.{Reaching, Entries}
-use Rattle.orders.specs.declared.Way.{Way}
 
 abbrev pub Has : List ℕ → ℕ → Type 0
 Has spots x = get_or spots x 0 ≢ none
@@ -50,10 +49,10 @@ pub record Noted (par spots way : List ℕ) (k : ℕ) : Type 0 where
   pub next : (j : ℕ) → j + 1 < k → up par (get_or way j 0) ≡ get_or way (j + 1) 0
   pub last : (j : ℕ) → j + 1 ≡ k → (length par ≤ up par (get_or way j 0)) ⊎ Has spots (up par (get_or way j 0))
 
-pub record WayMeets (par spots : List ℕ) (x : ℕ) (way : List ℕ) (r : Way) : Type 0 where
-  pub ends : r.ends ≡ reaching par x
-  pub noted : T r.ends → Noted par spots way r.count
-  pub first : T r.ends → Has spots x ⊎ ((0 < r.count) × (get_or way 0 0 ≡ x))
+pub record WayMeets (par spots : List ℕ) (x : ℕ) (way : List ℕ) (r : Option ℕ) : Type 0 where
+  pub ends : is_some r ≡ reaching par x
+  pub noted : IfSome r (λ k. Noted par spots way k)
+  pub first : IfSome r (λ k. Has spots x ⊎ ((0 < k) × (get_or way 0 0 ≡ x)))
 
 pub record Next (par spots copy : List ℕ) (x c : ℕ) : Type 0 where
   pub listing : Listing par c spots copy

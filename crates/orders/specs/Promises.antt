@@ -1,9 +1,10 @@
 -- What the functions of this crate promise.
 --   Orderable par spots copy way <-> what ordering needs: rule 2, tables of n entries, and no node with a position yet
 --   Ordered par spots copy   <-> copy is the tree of par, x numbered by its entry of spots, and has parents first
---   OrderMeets par spots copy r <-> r is the lowest node that never reaches the root; if it is n, the nodes are ordered
+--   Lost par r               <-> r is the lowest node that never reaches the root; none if all do
+--   OrderMeets par spots copy r <-> r is the lowest node that never reaches the root; if there is none, the nodes are ordered
 -- Assumes nothing.
-use Rattle.std.specs.Prelude.{ℕ, ◌≤◌, ◌<◌, ◌≡◌, List, length, get_or}
+use Rattle.std.specs.Prelude.{ℕ, ◌≤◌, ◌<◌, ◌≡◌, List, Option, Some, None, IfNone, length, get_or}
 use Rattle.trees.specs.Lists.{lowest}
 use Rattle.trees.specs.Trees.{none}
 use Rattle.trees.specs.First.{ParentsFirst}
@@ -24,6 +25,10 @@ pub record Ordered (par spots copy : List ℕ) : Type 0 where
   pub same : Renumbered par copy (λ x. get_or spots x 0) back
   pub first : ParentsFirst copy
 
-pub record OrderMeets (par spots copy : List ℕ) (r : ℕ) : Type 0 where
-  pub answer : r ≡ lowest (reaching par) (length par)
-  pub ordered : r ≡ length par → Ordered par spots copy
+abbrev pub Lost : List ℕ → Option ℕ → Type 0
+Lost par (Some x) = (x < length par) × (x ≡ lowest (reaching par) (length par))
+Lost par None = length par ≡ lowest (reaching par) (length par)
+
+pub record OrderMeets (par spots copy : List ℕ) (r : Option ℕ) : Type 0 where
+  pub answer : Lost par r
+  pub ordered : IfNone r (Ordered par spots copy)

@@ -11,47 +11,29 @@ ghost use Rattle.trees.specs.Rules.{reaching};
 ghost use Rattle.roots.specs.Promises.{JudgeRootsMeets};
 ghost use Rattle.roots.specs.Ways.{Entries};
 ghost use Rattle.orders.specs.Listing.{Room, spot_over_lem, WayMeets, Next, Done, Listable, Listed};
-ghost use Rattle.orders.specs.Promises.{Orderable, OrderMeets};
+ghost use Rattle.orders.specs.Promises.{Orderable, Lost, OrderMeets};
 
-use trees::{Judged, refuse};
+use trees::{Refusal, refuse};
 
-// A way up: how many of its nodes are noted, and whether it ends at a listed node or at the root.
-#[derive(Clone, Copy)]
-struct Way {
-    count: usize,
-    ends: bool,
-}
-
-// Notes the way up from a node to the first listed node.
-fn note_way(parents: &[u16], spots: &[u16], way: &mut [u16], node: usize) -> Way
+// Notes the way up from a node to the first listed node or to the root. Answers how many of its nodes are noted, if it ends there.
+fn note_way(parents: &[u16], spots: &[u16], way: &mut [u16], node: usize) -> Option<usize>
     requires { (node < length parents.now) × Room parents.now spots.now way.old }
     ensures { WayMeets parents.now spots.now node way.new result }
 {
     let n = parents.len();
     let mut x = node;
-    let mut k: usize = 0;
-    while k < n {
+    for k in 0..n {
         if spots[x] != 65535 {
-            return Way {
-                count: k,
-                ends: true,
-            };
+            return Some(k);
         }
         way[k] = x as u16;
-        k += 1;
         let u = parents[x] as usize;
         if n <= u {
-            return Way {
-                count: k,
-                ends: true,
-            };
+            return Some(k + 1);
         }
         x = u;
     }
-    Way {
-        count: k,
-        ends: false,
-    }
+    None
 }
 
 // The position of a node's parent, or 65,535 at the root.
@@ -64,6 +46,7 @@ fn spot_over(parents: &[u16], spots: &[u16], node: usize) -> u16
 }
 
 // Gives a node the next position, `count`, if it has none yet. Answers how many nodes are listed then.
+#[tactic(auto, using(crate::proofs::Lists::list_few))]
 fn list_node(
     parents: &[u16],
     spots: &mut [u16],
@@ -94,41 +77,34 @@ fn list_way(
     requires { Listable parents.now spots.old copy.old way.now k count }
     ensures { Listed parents.now spots.old way.now k spots.new copy.new result }
 {
-    let mut j = k;
     let mut c = count;
-    while 0 < j {
-        j -= 1;
-        let x = way[j] as usize;
-        c = list_node(parents, spots, copy, x, c);
+    for j in (0..k).rev() {
+        c = list_node(parents, spots, copy, way[j] as usize, c);
     }
     c
 }
 
 // A position for each node, so that parents come first, and the parents by position, into tables of n entries. Answers the lowest node
-// that never reaches the root, and then what is in the tables is of no use; n if all do.
-pub fn order(parents: &[u16], spots: &mut [u16], copy: &mut [u16], way: &mut [u16]) -> usize
+// that never reaches the root, if there is one, and then what is in the tables is of no use.
+pub fn order(parents: &[u16], spots: &mut [u16], copy: &mut [u16], way: &mut [u16]) -> Option<usize>
     requires { Orderable parents.now spots.old copy.old way.old }
     ensures { OrderMeets parents.now spots.new copy.new result }
 {
     let n = parents.len();
     let mut c: usize = 0;
-    let mut i: usize = 0;
-    while i < n {
-        let w = note_way(parents, spots, way, i);
-        if w.ends {
-            c = list_way(parents, spots, copy, way, w.count, c);
-            i += 1;
-        } else {
-            return i;
-        }
+    for i in 0..n {
+        let Some(k) = note_way(parents, spots, way, i) else {
+            return Some(i);
+        };
+        c = list_way(parents, spots, copy, way, k, c);
     }
-    n
+    None
 }
 
-// The lowest node that never reaches the root, or n, on a table that rule 2 has passed. 12,282 bytes of stack.
-fn first_lost(parents: &[u16]) -> usize
+// The lowest node that never reaches the root, if there is one, on a table that rule 2 has passed. 12,282 bytes of stack.
+fn first_lost(parents: &[u16]) -> Option<usize>
     requires { (1 ≤ length parents.now) × Entries parents.now }
-    ensures { result ≡ lowest (reaching parents.now) (length parents.now) }
+    ensures { Lost parents.now result }
 {
     let n = parents.len();
     let mut spots = [65535u16; 2047];
@@ -138,20 +114,16 @@ fn first_lost(parents: &[u16]) -> usize
 }
 
 // Rules 2 and 38 of the tree with that number.
-pub fn judge_roots(tree: u16, parents: &[u16]) -> Judged
+pub fn judge_roots(tree: u16, parents: &[u16]) -> Result<(), Refusal>
     requires { (1 ≤ length parents.now) × (length parents.now ≤ 2047) }
     ensures { JudgeRootsMeets tree parents.now result }
 {
     if roots::in_order(parents) {
-        return Judged::Sound;
+        return Ok(());
     }
-    let rooted = roots::judge_parents(tree, parents);
-    let Judged::Sound = rooted else {
-        return rooted;
-    };
-    let lost = first_lost(parents);
-    if lost < parents.len() {
-        return Judged::Refused(refuse(38, tree, lost));
+    roots::judge_parents(tree, parents)?;
+    if let Some(lost) = first_lost(parents) {
+        return Err(refuse(38, tree, lost));
     }
-    Judged::Sound
+    Ok(())
 }

@@ -17,11 +17,8 @@ pub fn all_below(table: &[u16], q: usize, limit: u16) -> bool
     if table.len() < q {
         return false;
     }
-    let mut wrong: u16 = 0;
-    let mut g: usize = 0;
-    while g < q {
-        wrong = noted(wrong, table[g] < limit);
-        g += 1;
-    }
+    let wrong: u16 = table[..q]
+        .iter()
+        .fold(0, |wrong, &entry| noted(wrong, entry < limit));
     wrong == 0
 }

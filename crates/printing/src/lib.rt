@@ -36,10 +36,10 @@ pub fn put_number(n: u64, end: u8, at: usize, out: &mut [u8]) -> usize
     let mut rest = n;
     while 10 <= rest {
         i -= 1;
-        out[i] = 48 + (rest % 10) as u8;
+        out[i] = b'0' + (rest % 10) as u8;
         rest /= 10;
     }
-    out[i - 1] = 48 + rest as u8;
+    out[i - 1] = b'0' + rest as u8;
     out[stop] = end;
     stop + 1
 }
@@ -49,12 +49,10 @@ pub fn put_number(n: u64, end: u8, at: usize, out: &mut [u8]) -> usize
 fn letter_of(label: u16) -> u8
     ensures { result ≡ letter label }
 {
-    if label == 0 {
-        76
-    } else if label == 1 {
-        83
-    } else {
-        68
+    match label {
+        0 => b'L',
+        1 => b'S',
+        _ => b'D',
     }
 }
 
@@ -63,10 +61,10 @@ fn put_node(node: GeneNode, place: SpeciesNode, label: u16, at: usize, out: &mut
     requires { at + length (node_line node.0 place.0 label) ≤ length out.old }
     ensures { Put at (node_line node.0 place.0 label) out.old out.new result }
 {
-    let a = put_number(node.0 as u64, 32, at, out);
-    let b = put_number(place.0 as u64, 32, a, out);
+    let a = put_number(node.0 as u64, b' ', at, out);
+    let b = put_number(place.0 as u64, b' ', a, out);
     out[b] = letter_of(label);
-    out[b + 1] = 10;
+    out[b + 1] = b'\n';
     b + 2
 }
 
@@ -75,12 +73,9 @@ fn lines_size(places: &[u16]) -> usize
     requires { length places.now ≤ 2047 }
     ensures { LinesSize places.now result }
 {
-    let n = places.len();
     let mut size: usize = 0;
-    let mut i: usize = 0;
-    while i < n {
-        size += digit_count(i as u64) + digit_count(places[i] as u64) + 4;
-        i += 1;
+    for (i, &place) in places.iter().enumerate() {
+        size += digit_count(i as u64) + digit_count(place as u64) + 4;
     }
     size
 }
@@ -90,13 +85,10 @@ fn put_lines(places: &[u16], labels: &[u16], out: &mut [u8]) -> usize
     requires { LinesRoom places.now labels.now out.old }
     ensures { Put 0 (told_lines places.now labels.now) out.old out.new result }
 {
-    let n = places.len();
     let mut at: usize = 0;
-    let mut i: usize = 0;
-    while i < n {
-        let place = places[i] as usize;
-        at = put_node(GeneNode(i), SpeciesNode(place), labels[i], at, out);
-        i += 1;
+    for (i, &place) in places.iter().enumerate() {
+        let place = SpeciesNode(usize::from(place));
+        at = put_node(GeneNode(i), place, labels[i], at, out);
     }
     at
 }
@@ -106,14 +98,7 @@ fn put_refused(out: &mut [u8]) -> usize
     requires { 8 ≤ length out.old }
     ensures { Put 0 refused_word out.old out.new result }
 {
-    out[0] = 114;
-    out[1] = 101;
-    out[2] = 102;
-    out[3] = 117;
-    out[4] = 115;
-    out[5] = 101;
-    out[6] = 100;
-    out[7] = 32;
+    out[..8].copy_from_slice(b"refused ");
     8
 }
 
@@ -129,9 +114,9 @@ pub fn write_refusal(refusal: Refusal, out: &mut [u8]) -> usize
         return 0;
     }
     let a = put_refused(out);
-    let b = put_number(number, 32, a, out);
-    let c = put_number(tree, 32, b, out);
-    put_number(place, 10, c, out)
+    let b = put_number(number, b' ', a, out);
+    let c = put_number(tree, b' ', b, out);
+    put_number(place, b'\n', c, out)
 }
 
 // How many bytes the line of the counts takes.
@@ -151,11 +136,11 @@ fn put_counts(counts: LeastCounts, at: usize, out: &mut [u8]) -> usize
     requires { at + length (counts_line (counts_of counts)) ≤ length out.old }
     ensures { Put at (counts_line (counts_of counts)) out.old out.new result }
 {
-    let a = put_number(counts.duplications as u64, 32, at, out);
-    let b = put_number(counts.losses as u64, 32, a, out);
-    let c = put_number(counts.speciations as u64, 32, b, out);
-    let d = put_number(counts.climbs as u64, 32, c, out);
-    put_number(counts.cost, 10, d, out)
+    let a = put_number(counts.duplications as u64, b' ', at, out);
+    let b = put_number(counts.losses as u64, b' ', a, out);
+    let c = put_number(counts.speciations as u64, b' ', b, out);
+    let d = put_number(counts.climbs as u64, b' ', c, out);
+    put_number(counts.cost, b'\n', d, out)
 }
 
 // The lines of all gene nodes, then the line of the counts.

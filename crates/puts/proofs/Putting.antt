@@ -4,19 +4,19 @@ use native.Mathlib.Omega.{arith}
 use native.Mathlib.Nat.{add-zero}
 use native.Mathlib.Numerals.{add-one}
 use native.Mathlib.Decide.{ℕ_discrete}
-use mathlib.Core.Path.{◌≡◌, refl, sym, ap, ◌∙◌}
+use mathlib.Core.Path.{◌≡◌, refl, sym, ap, ap₂, ◌∙◌}
+use Rattle.std.proofs.Common.{mul-le-mul_left}
+use Rattle.std.proofs.lemmas.List.{take_more}
 use mathlib.Core.Logic.{◌≢◌}
-use mathlib.Core.List.{List, [], ◌∷◌, ◌++◌, append_assoc}
-use lib.ListN.{length, get_or, take, set, replicate, length-append, length-set, length-replicate, replicate-append-replicate}
-use lib.Seq.{sets, length-take-le, take-suc, get_or-set_same, get_or-set_other, ext_get_or}
+use mathlib.Core.List.{List, [], ◌∷◌, ◌++◌}
+use lib.ListN.{length, get_or, take, set, replicate, length-set, length-replicate, replicate-append-replicate}
+use lib.Seq.{sets, take_all, length-take-le, get_or-set_same, get_or-set_other, ext_get_or}
 use Rattle.blocks.specs.Halves.{halves, low_high_lem}
 use Rattle.blocks.specs.Blocks.{contents, count, content}
 use Rattle.words.specs.Words.{offset, after, Within}
-use Rattle.puts.specs.Puts.{stored, puts}
-use Rattle.blocks.proofs.Halves.{length_halves, halves_append}
+use Rattle.puts.specs.Puts.{stored, puts, PutLaws}
 use Rattle.blocks.proofs.Blocks.{length_contents}
-use Rattle.words.proofs.Words.{offset_in, word_contents}
-use Rattle.words.proofs.Tables.{word_behind}
+use Rattle.words.proofs.Words.{after_offset, offset_in, word_contents}
 use Rattle.puts.proofs.Stored.{stored_same, stored_other}
 
 -- ---- a word put
@@ -95,19 +95,38 @@ module _ (s : List ℕ) (i : ℕ) (m n : List ℕ) (k at : ℕ) where
   pub putting_zero : Putting s i m (replicate k 0) → at ≡ offset (i + k) → n ≡ stored m at 0 → Putting s i n (replicate (k + 1) 0)
   putting_zero p e g = rw (← replicate-append-replicate {A = ℕ} k 1 0) (putting_more s i m n (replicate k 0) k at 0 p (length-replicate k 0) e g)
 
-  module _ (l : List ℕ) (h : k < length l) where
-    snoc : take (k + 1) l ≡ take k l ++ get_or l k 0 ∷ []
-    snoc = rw add-one (take-suc l k 0 h)
+-- ---- an entry put: its words, from the one at byte `at` on
 
-    pub putting_word : Putting s i m (take k l) → at ≡ offset (i + k) → n ≡ stored m at (get_or l k 0) → Putting s i n (take (k + 1) l)
-    putting_word p e g = rw snoc (putting_more s i m n (take k l) k at (get_or l k 0) p (length-take-le k l (omega arith)) e g)
+module _ (m n : List ℕ) (i at : ℕ) (e : at ≡ offset i) where
+  pub put_one : (w : ℕ) → n ≡ stored m at w → n ≡ puts m i (w ∷ [])
+  unfolding puts
+  put_one w f = f ∙ ap (λ b. stored m b w) e
 
-    pub putting_long : Putting s i m (low_high_lem (take k l)) → at ≡ offset (i + 2 * k) → n ≡ stored (stored m at (get_or l k 0 % 65536)) (after at) (get_or l k 0 / 65536) → Putting s i n (low_high_lem (take (k + 1) l))
-    unfolding halves
-    putting_long p e g =
-        let a = low_high_lem (take k l) in
-        let x = get_or l k 0 in
-        let z : length a ≡ 2 * k = length_halves 65536 (take k l) ∙ ap (λ n. 2 * n) (length-take-le k l (omega arith)) in
-        let q : Putting s i (stored m at (x % 65536)) (a ++ (x % 65536) ∷ []) = putting_more s i m (stored m at (x % 65536)) a (2 * k) at (x % 65536) p z e refl in
-        rw (snoc, halves_append 65536 (take k l) (x ∷ []), ← append_assoc a ((x % 65536) ∷ []) ((x / 65536) ∷ []))
-        (putting_more s i (stored m at (x % 65536)) n (a ++ (x % 65536) ∷ []) (2 * k + 1) (after at) (x / 65536) q (length-append a ((x % 65536) ∷ []) ∙ omega (arith, z)) (word_behind i (2 * k) at (after at) e refl) g)
+  pub put_two : (x : ℕ) → n ≡ stored (stored m at (x % 65536)) (after at) (x / 65536) → n ≡ puts m i (low_high_lem (x ∷ []))
+  unfolding puts halves
+  put_two x f =
+      let z : after at ≡ offset (suc i) = ap after e ∙ after_offset i ∙ rw add-one refl in
+      f ∙ ap₂ (λ (a b : ℕ). stored (stored m a (x % 65536)) b (x / 65536)) e z
+
+-- ---- a table put entry by entry
+
+module _ (s : List ℕ) (i : ℕ) (m : List ℕ) where
+  -- there is room for the entry behind k
+  pub room_for : (size n k : ℕ) → k < n → Within s i (size * n) → length m ≡ length s → Within m (i + size * k) size
+  room_for size n k h w e =
+      let d : count m ≡ count s = ap (λ (n : ℕ). n / 512) e in
+      let p : size * (k + 1) ≤ size * n = mul-le-mul_left size (omega arith) in
+      record { room = omega (arith, w.room, d, p) }
+
+  module _ {E : Type 0} {size : ℕ} {words : List E → List ℕ} (laws : PutLaws size words) (l : List E) (k : ℕ) where
+    pub putting_entry : (n : List ℕ) (x : E) → k < length l → x ≡ get_or l k x → Putting s i m (words (take k l)) → n ≡ puts m (i + size * k) (words (x ∷ [])) → Putting s i n (words (take (k + 1) l))
+    putting_entry n x h e p f =
+        let more : take (k + 1) l ≡ take k l ++ x ∷ [] = take_more l k x h ∙ ap (λ y. take k l ++ y ∷ []) (sym e) in
+        let long : length (words (take k l)) ≡ size * k = laws.many (take k l) ∙ ap (λ n. size * n) (length-take-le k l (omega arith)) in
+        record {
+          same = ap length f ∙ length_puts m (i + size * k) (words (x ∷ [])) ∙ p.same;
+          is = f ∙ rw (p.is, ← long) (sym (puts_append s i (words (take k l)) (words (x ∷ [])))) ∙ ap (puts s i) (sym (laws.both (take k l) (x ∷ [])) ∙ ap words (sym more));
+        }
+
+    pub putting_end : length l ≤ k → Putting s i m (words (take k l)) → m ≡ puts s i (words l)
+    putting_end h p = p.is ∙ ap (λ t. puts s i (words t)) (take_all k l h)

@@ -1,4 +1,6 @@
 -- What each public function promises: of the contents at entry, in the order of the parameters, and the final content of the lent image.
+--   PutMeets words image i table left <-> left is the image with the words of the table's entries as the words from i on, and nothing else changed
+-- and at the two kinds of entries:
 --   PutWordsMeets image i table left <-> left is the image with the entries of the table as the words from i on, and nothing else changed
 --   PutLongsMeets image i table left <-> the same of two words an entry, low first
 --   PutZerosMeets image i left       <-> left is the image with every word zero from word i to the end of the last block
@@ -8,6 +10,9 @@ use Rattle.std.specs.Prelude.{ℕ, ◌-◌, ◌*◌, ◌≡◌, List, replicate}
 use Rattle.blocks.specs.Halves.{low_high_lem}
 use Rattle.blocks.specs.Blocks.{blocks, count, content}
 use Rattle.puts.specs.Puts.{puts}
+
+abbrev pub PutMeets : {E : Type 0} → (List E → List ℕ) → List ℕ → ℕ → List E → List ℕ → Type 0
+PutMeets words image i table left = left ≡ puts image i (words table)
 
 abbrev pub PutWordsMeets : List ℕ → ℕ → List ℕ → List ℕ → Type 0
 PutWordsMeets image i table left = left ≡ puts image i table

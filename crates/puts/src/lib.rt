@@ -4,4 +4,4 @@
 
 pub mod seal;
 pub mod table;
-mod word;
+pub mod word;

@@ -25,11 +25,8 @@ pub fn seal_all(image: &mut [u8])
     ensures { SealAllMeets image.old image.new }
 {
     let n = image.len() / 512;
-    let mut k: usize = 0;
-    while k < n {
+    for k in 0..n {
         let a = 512 * k;
-        let e = a + 512;
-        seal(&mut image[a..e], k as u16);
-        k += 1;
+        seal(&mut image[a..a + 512], k as u16);
     }
 }

@@ -1,36 +1,19 @@
 // Tables put as the words of an image.
 ghost use Rattle.std.specs.Prelude.{◌*◌, length};
 ghost use Rattle.words.specs.Words.{Within};
-ghost use Rattle.puts.specs.Promises.{PutWordsMeets, PutLongsMeets, PutZerosMeets};
+ghost use Rattle.puts.specs.Promises.{PutMeets, PutZerosMeets};
 
-use crate::word;
+use crate::word::{self, Put};
 use words::at;
 
 // The entries of a table as the words from i on.
-pub fn put_words(image: &mut [u8], i: usize, table: &[u16])
-    requires { Within image.old i (length table.now) }
-    ensures { PutWordsMeets image.old i table.now image.new }
+pub fn put<T: Put>(image: &mut [u8], i: usize, table: &[T])
+    requires { Within image.old i (T.WORDS * length table.now) }
+    ensures { PutMeets T.words image.old i table.now image.new }
 {
     let mut at = at::offset_of(i);
-    let mut k: usize = 0;
-    while k < table.len() {
-        word::put_word(image, at, table[k]);
-        at = at::next(at);
-        k += 1;
-    }
-}
-
-// The entries of a table, two words each, low first, as the words from i on.
-pub fn put_longs(image: &mut [u8], i: usize, table: &[u32])
-    requires { Within image.old i (2 * length table.now) }
-    ensures { PutLongsMeets image.old i table.now image.new }
-{
-    let mut at = at::offset_of(i);
-    let mut k: usize = 0;
-    while k < table.len() {
-        word::put_long(image, at, table[k]);
-        at = at::next(at::next(at));
-        k += 1;
+    for &x in table {
+        at = x.put(image, at);
     }
 }
 
@@ -41,10 +24,8 @@ pub fn put_zeros(image: &mut [u8], i: usize)
 {
     let n = 253 * (image.len() / 512) - i;
     let mut at = at::offset_of(i);
-    let mut k: usize = 0;
-    while k < n {
+    for _ in 0..n {
         word::put_word(image, at, 0);
         at = at::next(at);
-        k += 1;
     }
 }

@@ -1,4 +1,5 @@
 -- What each way through the rack's calls answers and leaves. Assumes nothing.
+use Rattle.std.specs.Prelude.{Err, Ok}
 use Prim.Native.Nat.{ℕ, ◌≤◌, ◌<◌}
 use native.Mathlib.Omega.{arith}
 use mathlib.Core.Path.{◌≡◌, refl, sym, ap, ◌∙◌}
@@ -21,8 +22,7 @@ use Rattle.histories.proofs.Outcomes.{least_left}
 use Rattle.least.specs.Answers.{counts_of}
 use Rattle.least.specs.Promises.{LeastHistoryMeets}
 use Rattle.least.specs.declared.LeastCounts.{LeastCounts}
-use Rattle.least.specs.declared.LeastAnswer.{LeastAnswer}
-use Rattle.least.specs.declared.LeastAnswer.TheVariants.{Done, Refused}
+use Rattle.least.specs.Answers.{LeastAnswer}
 use Rattle.rack.specs.Rack.{rack_rules, four_of, rack_counts, rack_ruling, RackOutcome, rack_outcome}
 
 -- the four entries that are written
@@ -80,21 +80,21 @@ module _ (w : Pair) (p l c : List ℕ) where
     unfolding rack_rules least_rules
     same_rules = rw (le-leb 4 (length c) h, and_yes (roomy w p l))
 
-    pub rack_refused : (x : LeastAnswer) (r : Refusal) (p' l' : List ℕ) → LeastHistoryMeets w p l 0 0 x p' l' → x ≡ Refused r → alone r.number p' l' c ≡ rack_outcome w p l c
+    pub rack_refused : (x : LeastAnswer) (r : Refusal) (p' l' : List ℕ) → LeastHistoryMeets w p l 0 0 x p' l' → x ≡ Err r → alone r.number p' l' c ≡ rack_outcome w p l c
     unfolding rack_ruling least_outcome least_ruling
     rack_refused x r p' l' N q =
-        let M : LeastHistoryMeets w p l 0 0 (Refused r) p' l' = rw q at N in
+        let M : LeastHistoryMeets w p l 0 0 (Err r) p' l' = rw q at N in
         let e : (least_outcome w p l 0 0).answer ≡ refused_by r = sym (ap (λ (o : Outcome). o.answer) M) in
         let k = least_left w p l 0 0 r.number r.tree r.place e in
         let a : p' ≡ p = ap (λ (o : Outcome). o.places) M ∙ k.0 in
         let b : l' ≡ l = ap (λ (o : Outcome). o.labels) M ∙ k.1 in
         rw (a, b) (stays r.number r.tree r.place (rw same_rules (rw (append-nil (least_rules w p l)) at (ruling_stays (least_rules w p l) [] (least_counts w 0 0) (rack_counts w) r.number r.tree r.place e))))
 
-    pub rack_done : (x : LeastAnswer) (s : LeastCounts) (p' l' c' : List ℕ) → LeastHistoryMeets w p l 0 0 x p' l' → x ≡ Done s → c' ≡ replaced (four_of s.duplications s.losses s.speciations s.climbs) c
+    pub rack_done : (x : LeastAnswer) (s : LeastCounts) (p' l' c' : List ℕ) → LeastHistoryMeets w p l 0 0 x p' l' → x ≡ Ok s → c' ≡ replaced (four_of s.duplications s.losses s.speciations s.climbs) c
         → alone 0 p' l' c' ≡ rack_outcome w p l c
     unfolding rack_outcome rack_ruling rack_counts least_outcome least_ruling least_counts
     rack_done x s p' l' c' N q f =
-        let M : LeastHistoryMeets w p l 0 0 (Done s) p' l' = rw q at N in
+        let M : LeastHistoryMeets w p l 0 0 (Ok s) p' l' = rw q at N in
         let e : least_ruling w p l 0 0 ≡ accepted (counts_of s) = sym (ap (λ (o : Outcome). o.answer) M) in
         let k = ruling_accepted (least_rules w p l) (least_counts w 0 0) (counts_of s) e in
         let r : rack_ruling w p l c ≡ accepted (rack_counts w) = rw same_rules (ruling_passes (least_rules w p l) (rack_counts w) k.0) in

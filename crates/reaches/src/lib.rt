@@ -14,17 +14,16 @@ ghost use Rattle.roots.specs.Promises.{JudgeRootsMeets};
 ghost use Rattle.roots.specs.Ways.{Reaching, Entries};
 ghost use Rattle.reaches.specs.Knowing.{Knowing};
 
-use trees::{Judged, refuse};
+use trees::{Refusal, refuse};
 
 // Does the node reach the root?
-fn reaches(parents: &[u16], marks: &[u16], node: usize) -> bool
+fn reaches(parents: &[u16], marks: &[u16; 512], node: usize) -> bool
     requires { (node < length parents.now) × Entries parents.now × Knowing parents.now marks.now }
     ensures { result ≡ reaching parents.now node }
 {
     let n = parents.len();
     let mut x = node;
-    let mut k: usize = 0;
-    while k < n {
+    for _ in 0..n {
         if marks::two_at(marks, x) != 0 {
             return true;
         }
@@ -33,20 +32,18 @@ fn reaches(parents: &[u16], marks: &[u16], node: usize) -> bool
             return true;
         }
         x = u;
-        k += 1;
     }
     false
 }
 
 // Marks the way up from a node that reaches the root, to the first node that is marked already.
-fn mark_way(parents: &[u16], marks: &mut [u16], node: usize)
+fn mark_way(parents: &[u16], marks: &mut [u16; 512], node: usize)
     requires { (node < length parents.now) × Entries parents.now × Knowing parents.now marks.old × Reaching parents.now node }
     ensures { Knowing parents.now marks.new }
 {
     let n = parents.len();
     let mut x = node;
-    let mut k: usize = 0;
-    while k < n {
+    for _ in 0..n {
         if marks::two_at(marks, x) != 0 {
             return;
         }
@@ -56,44 +53,35 @@ fn mark_way(parents: &[u16], marks: &mut [u16], node: usize)
             return;
         }
         x = u;
-        k += 1;
     }
 }
 
 // Rule 38: refused at the lowest node that never reaches the root.
-fn judge_reaching(tree: u16, parents: &[u16], marks: &mut [u16]) -> Judged
-    requires { Entries parents.now × (length marks.old ≡ 512) }
+fn judge_reaching(tree: u16, parents: &[u16], marks: &mut [u16; 512]) -> Result<(), Refusal>
+    requires { Entries parents.now }
     ensures { judged_of result ≡ verdict (each 38 tree (length parents.now) (reaching parents.now) ∷ []) }
 {
     marks::blank(marks);
     let n = parents.len();
-    let mut i: usize = 0;
-    while i < n {
-        if marks::two_at(marks, i) != 0 {
-            i += 1;
-        } else {
-            if reaches(parents, marks, i) {
-                mark_way(parents, marks, i);
-                i += 1;
-            } else {
-                return Judged::Refused(refuse(38, tree, i));
+    for i in 0..n {
+        if marks::two_at(marks, i) == 0 {
+            if !reaches(parents, marks, i) {
+                return Err(refuse(38, tree, i));
             }
+            mark_way(parents, marks, i);
         }
     }
-    Judged::Sound
+    Ok(())
 }
 
 // Rules 2 and 38 of the tree with that number.
-pub fn judge_roots(tree: u16, parents: &[u16], marks: &mut [u16]) -> Judged
-    requires { (1 ≤ length parents.now) × (length parents.now ≤ 2047) × (length marks.old ≡ 512) }
+pub fn judge_roots(tree: u16, parents: &[u16], marks: &mut [u16; 512]) -> Result<(), Refusal>
+    requires { (1 ≤ length parents.now) × (length parents.now ≤ 2047) }
     ensures { JudgeRootsMeets tree parents.now result }
 {
     if roots::in_order(parents) {
-        return Judged::Sound;
+        return Ok(());
     }
-    let rooted = roots::judge_parents(tree, parents);
-    let Judged::Sound = rooted else {
-        return rooted;
-    };
+    roots::judge_parents(tree, parents)?;
     judge_reaching(tree, parents, marks)
 }

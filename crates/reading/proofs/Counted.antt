@@ -6,34 +6,26 @@ use mathlib.Core.List.{List, [], ◌∷◌}
 use lib.ListN.{length, get_or, drop}
 use lib.Dec.{T, leb, leb→le, le→leb}
 use borrow.Author.Tests.{lt-leb}
-use Rattle.trees.specs.Rulings.{whole, refused, refused_by, verdict, fine, number_of, tree_of, done, and}
-use Rattle.trees.proofs.Bools.{and_both, and_right, clash}
+use Rattle.std.specs.Prelude.{Option, Some, None}
+use Rattle.numbers.specs.Promises.{ReadNumberMeets}
+use Rattle.numbers.specs.declared.Number.{Number}
+use Rattle.trees.specs.Rulings.{whole, refused, verdict, fine, number_of, tree_of, done, and}
+use Rattle.trees.proofs.Bools.{and_both, and_right}
 use Rattle.trees.proofs.Rulings.{ruling_pass, ruling_fail}
 use Rattle.numbers.specs.Numbers.{value, is_number}
 use Rattle.numbers.specs.Words.{words}
 use Rattle.reading.specs.Reading.{word, species_count, gene_count, counted, count_rules}
-use Rattle.reading.specs.Readers.{SizesRead, SizesBy}
-use Rattle.trees.specs.declared.Refusal.{Refusal}
-use Rattle.reading.specs.declared.Sizes.{Sizes}
-use Rattle.reading.specs.declared.Sizes.TheVariants.{Both, Refused}
+use Rattle.reading.specs.Readers.{SizesRead}
 use Rattle.numbers.proofs.Digits.{and_false}
-use Rattle.numbers.proofs.Cursor.{Got}
+use Rattle.numbers.proofs.Cursor.{Got, number_got, number_none}
 
--- what the reader's answer says
-pub sizes_refused : (text : List ℕ) (r : Sizes) (f : Refusal) → r ≡ Refused f → verdict (count_rules text) ≡ refused_by f → SizesBy r text
-sizes_refused text r f e v = rw e v
+-- a number was read, or none
+module _ (text : List ℕ) (at : ℕ) (o : Option Number) where
+  pub read_some : (n : Number) → at ≤ length text → ReadNumberMeets text at o → o ≡ Some n → Got text at n.value n.next
+  read_some n h m e = number_got text at n.value n.next h (rw e at m)
 
-pub sizes_refusal : (text : List ℕ) (r : Sizes) (f : Refusal) → r ≡ Refused f → SizesBy r text → verdict (count_rules text) ≡ refused_by f
-sizes_refusal text (Both p q next) f e R = clash (cc)
-sizes_refusal text (Refused g) f e v = let q : g ≡ f = cc in v ∙ rw q
-
-pub sizes_read : (text : List ℕ) (r : Sizes) (p q next : ℕ) → r ≡ Both p q next → SizesBy r text → SizesRead text p q next
-sizes_read text (Both p' q' next') p q next e R =
-    let a : p' ≡ p = cc in
-    let b : q' ≡ q = cc in
-    let c : next' ≡ next = cc in
-    rw c at (rw b at (rw a at R))
-sizes_read text (Refused g) p q next e v = clash (cc)
+  pub read_none : ReadNumberMeets text at o → o ≡ None → is_number 32 (get_or (words (drop at text)) 0 []) ≡ false
+  read_none m e = number_none text at (rw e at m)
 
 pub counted_few : (n : ℕ) → T (counted n) → n ≤ 2047
 unfolding counted

@@ -2,21 +2,18 @@
 use Prim.Native.Nat.{ℕ, suc, ◌+◌, ◌-◌, ◌^◌, ◌≤◌, ◌<◌}
 use native.Mathlib.Omega.{arith}
 use native.Mathlib.Numerals.{add-one}
-use native.Mathlib.Nat.{one-le-pow}
 use mathlib.Core.Path.{◌≡◌, refl, sym, ap, ◌∙◌}
 use mathlib.Core.Bool.{false}
 use mathlib.Core.List.{List, [], ◌∷◌, ◌++◌, append_assoc, map-append}
 use lib.ListN.{length, get_or, take, drop, set, replicate, replicate-append-replicate}
-use lib.Seq.{take-length, take-suc-set}
-use Rattle.trees.proofs.Bools.{clash}
+use lib.Seq.{take-suc-set}
+use Rattle.std.specs.Prelude.{Option, Some, None, map}
 use Rattle.numbers.specs.Numbers.{value, is_number}
 use Rattle.numbers.specs.Words.{words}
 use Rattle.reading.specs.Reading.{tree_widths, fits}
-use Rattle.numbers.specs.Cursor.{Find, found, nothing, number_from}
+use Rattle.numbers.specs.Cursor.{nothing, number_from}
 use Rattle.reading.specs.Readers.{Taken, FilledBy}
-use Rattle.reading.specs.declared.Filled.{Filled}
-use Rattle.reading.specs.declared.Filled.TheVariants.{Past, Malformed}
-use Rattle.numbers.proofs.Cursor.{Got, number_got, number_none}
+use Rattle.numbers.proofs.Cursor.{Got, number_none}
 use Rattle.reading.proofs.Fits.{narrow_number, wide_none, narrow_none, fits_split, fits_one, fits_none}
 
 -- n + 1 + m entries of one width
@@ -63,75 +60,50 @@ taken_one text at width v next G h =
       inside = G.inside;
     }
 
--- ---- into the first i entries of a lent table
+-- ---- one entry more, behind i entries of a table of n
 
-module _ (text : List ℕ) (at width : ℕ) (table : List ℕ) (i next : ℕ) (K : Taken text at (replicate i width) (take i table) next) (l : i < length table) where
-  pub fill_more : (v after : ℕ) → Got text next v after → v < 2 ^ width → Taken text at (replicate (i + 1) width) (take (i + 1) (set table i v)) after
+module _ (text : List ℕ) (at width i next : ℕ) (es : List ℕ) (K : Taken text at (replicate i width) es next) where
+  pub fill_more : (v after : ℕ) → Got text next v after → v < 2 ^ width → Taken text at (replicate (i + 1) width) (es ++ v ∷ []) after
   fill_more v after G h =
-      rw (← replicate-append-replicate i 1 width, add-one i, take-suc-set table i v l)
-      (taken_join text at (replicate i width) (take i table) next K (width ∷ []) (v ∷ []) after (taken_one text next width v after G h))
+      rw (← replicate-append-replicate i 1 width)
+      (taken_join text at (replicate i width) es next K (width ∷ []) (v ∷ []) after (taken_one text next width v after G h))
 
-  -- the next word is no number of the width
-  short : is_number width (get_or (words (drop next text)) 0 []) ≡ false → (more : List ℕ) → fits (replicate (length table) width ++ more) (words (drop at text)) ≡ false
-  short e more =
-      rw (replicate_split i (length table) width l)
-      (short_join text at (replicate i width) (take i table) next K (width ∷ replicate (length table - suc i) width)
-      (λ m. fits_none width (replicate (length table - suc i) width ++ m) (words (drop next text)) e) more)
+  module _ (n : ℕ) (l : i < n) where
+    -- the next word is no number of the width
+    short : is_number width (get_or (words (drop next text)) 0 []) ≡ false → (more : List ℕ) → fits (replicate n width ++ more) (words (drop at text)) ≡ false
+    short e more =
+        rw (replicate_split i n width l)
+        (short_join text at (replicate i width) es next K (width ∷ replicate (n - suc i) width)
+        (λ m. fits_none width (replicate (n - suc i) width ++ m) (words (drop next text)) e) more)
 
-  pub fill_none : width ≤ 32 → nothing ≡ number_from text next → (more : List ℕ) → fits (replicate (length table) width ++ more) (words (drop at text)) ≡ false
-  fill_none h e = short (narrow_none width (get_or (words (drop next text)) 0 []) h (number_none text next e))
+    pub fill_none : width ≤ 32 → nothing ≡ number_from text next → (more : List ℕ) → fits (replicate n width ++ more) (words (drop at text)) ≡ false
+    fill_none h e = short (narrow_none width (get_or (words (drop next text)) 0 []) h (number_none text next e))
 
-  pub fill_wide : (v after : ℕ) → Got text next v after → 2 ^ width ≤ v → (more : List ℕ) → fits (replicate (length table) width ++ more) (words (drop at text)) ≡ false
-  fill_wide v after G h = short (rw G.split (wide_none width G.own G.number (rw G.told at h)))
+    pub fill_wide : (v after : ℕ) → Got text next v after → 2 ^ width ≤ v → (more : List ℕ) → fits (replicate n width ++ more) (words (drop at text)) ≡ false
+    fill_wide v after G h = short (rw G.split (wide_none width G.own G.number (rw G.told at h)))
 
--- what is next, as the loop over the parents keeps it: before the last entry, a number that is too wide makes the words no such numbers
-abbrev pub wide_of : Find → ℕ
-wide_of (found v after) = v
-wide_of nothing = 0
-
-abbrev pub TooWide : List ℕ → ℕ → ℕ → ℕ → ℕ → ℕ → Type 0
-TooWide text at width n i next =
-    i < n → 2 ^ width ≤ wide_of (number_from text next) → (more : List ℕ) → fits (replicate n width ++ more) (words (drop at text)) ≡ false
-
-pub fill_too_wide : (text : List ℕ) (at width : ℕ) (table : List ℕ) (i next : ℕ) → Taken text at (replicate i width) (take i table) next
-    → TooWide text at width (length table) i next
-fill_too_wide text at width table i next K l h more = go (number_from text next) refl h
-  where
-    go : (r : Find) → r ≡ number_from text next → 2 ^ width ≤ wide_of r → fits (replicate (length table) width ++ more) (words (drop at text)) ≡ false
-    go (found v after) e h = fill_wide text at width table i next K l v after (number_got text next v after K.inside e) h more
-    go nothing e h = absurd (omega (arith, one-le-pow width 2 (omega arith)))
-
-pub fill_end : (text : List ℕ) (at width : ℕ) (table : List ℕ) (i next : ℕ) → i ≡ length table → Taken text at (replicate i width) (take i table) next → Taken text at (replicate (length table) width) table next
-fill_end text at width table i next e K = let t : take (length table) table ≡ table = take-length table in rw t at (rw e at K)
-
--- ---- what a reader's answer says
-
-module _ (text : List ℕ) (at : ℕ) (bs es : List ℕ) where
-  pub filled_past : (r : Filled) (next : ℕ) → r ≡ Past next → FilledBy r text at bs es → Taken text at bs es next
-  filled_past (Past after) next e K = let n : after ≡ next = cc in rw n at K
-  filled_past Malformed next e f = clash (cc)
-
-  pub filled_short : (r : Filled) → r ≡ Malformed → FilledBy r text at bs es → (more : List ℕ) → fits (bs ++ more) (words (drop at text)) ≡ false
-  filled_short (Past after) e K = clash (cc)
-  filled_short Malformed e f = f
+-- the first i + 1 numbers of a table whose entry i is set
+pub numbers_more : {A : Type 0} (f : A → ℕ) (table : List A) (i : ℕ) (x : A) → i < length table
+    → map f (take (i + 1) (set table i x)) ≡ map f (take i table) ++ f x ∷ []
+numbers_more f table i x l = rw (add-one i, take-suc-set table i x l, map-append f (take i table) (x ∷ []))
 
 -- ---- the two tables of a tree
 
-module _ (text : List ℕ) (at : ℕ) (par tax : List ℕ) (r : Filled) where
+module _ (text : List ℕ) (at : ℕ) (par tax : List ℕ) where
   abbrev n : ℕ
   n = length par
 
   -- the parents are not there
-  pub tree_short : r ≡ Malformed → FilledBy r text at (replicate n 16) par → FilledBy r text at (tree_widths n) (par ++ tax)
+  pub tree_short : ((more : List ℕ) → fits (replicate n 16 ++ more) (words (drop at text)) ≡ false) → FilledBy None text at (tree_widths n) (par ++ tax)
   unfolding tree_widths
-  tree_short e f = rw e (short_more text at (replicate n 16) (replicate n 32) (filled_short text at (replicate n 16) par r e f))
+  tree_short f = short_more text at (replicate n 16) (replicate n 32) f
 
   -- they are, and the taxa are there behind them or not
-  pub tree_filled : (next : ℕ) → length tax ≡ n → Taken text at (replicate n 16) par next → FilledBy r text next (replicate (length tax) 32) tax
+  pub tree_filled : (r : Option ℕ) (next : ℕ) → length tax ≡ n → Taken text at (replicate n 16) par next → FilledBy r text next (replicate (length tax) 32) tax
       → FilledBy r text at (tree_widths n) (par ++ tax)
   unfolding tree_widths
-  tree_filled next e K f = go r (rw e at f)
+  tree_filled r next e K f = go r (rw e at f)
     where
-      go : (r : Filled) → FilledBy r text next (replicate n 32) tax → FilledBy r text at (replicate n 16 ++ replicate n 32) (par ++ tax)
-      go (Past after) L = taken_join text at (replicate n 16) par next K (replicate n 32) tax after L
-      go Malformed f = short_join text at (replicate n 16) par next K (replicate n 32) f
+      go : (r : Option ℕ) → FilledBy r text next (replicate n 32) tax → FilledBy r text at (replicate n 16 ++ replicate n 32) (par ++ tax)
+      go (Some after) L = taken_join text at (replicate n 16) par next K (replicate n 32) tax after L
+      go None f = short_join text at (replicate n 16) par next K (replicate n 32) f

@@ -9,16 +9,14 @@
 --   Ready text next w          <-> the same, and the four tables of w have these counts for sizes
 --   SizesBy r text             <-> what the answer r of the reader of the counts says
 -- Assumes nothing.
-use Rattle.std.specs.Prelude.{ℕ, ◌≤◌, ◌≡◌, Bool, true, false, List, ◌++◌, map, length, drop, T}
+use Rattle.std.specs.Prelude.{ℕ, ◌≤◌, ◌≡◌, Bool, true, false, List, ◌++◌, map, length, drop, T, Option, Some, None, Result, Ok, Err}
 use Rattle.trees.specs.Rulings.{refused_by, verdict, Passes, Every}
 use Rattle.trees.specs.Tables.{Pair}
+use Rattle.trees.specs.declared.Refusal.{Refusal}
 use Rattle.numbers.specs.Numbers.{value}
 use Rattle.numbers.specs.Words.{words}
 use Rattle.reading.specs.Reading.{species_count, gene_count, widths, fits, tables_of, count_rules}
-use Rattle.reading.specs.declared.Filled.{Filled}
-use Rattle.reading.specs.declared.Filled.TheVariants as filled
 use Rattle.reading.specs.declared.Sizes.{Sizes}
-use Rattle.reading.specs.declared.Sizes.TheVariants.{Both, Refused}
 
 pub record TreeRoom (text : List ℕ) (at : ℕ) (par tax : List ℕ) : Type 0 where
   pub inside : at ≤ length text
@@ -36,9 +34,9 @@ pub record Taken (text : List ℕ) (at : ℕ) (bs es : List ℕ) (next : ℕ) : 
   pub told : es ≡ map value own
   pub inside : next ≤ length text
 
-abbrev pub FilledBy : Filled → List ℕ → ℕ → List ℕ → List ℕ → Type 0
-FilledBy (filled.Past next) text at bs es = Taken text at bs es next
-FilledBy filled.Malformed text at bs es = (more : List ℕ) → fits (bs ++ more) (words (drop at text)) ≡ false
+abbrev pub FilledBy : Option ℕ → List ℕ → ℕ → List ℕ → List ℕ → Type 0
+FilledBy (Some next) text at bs es = Taken text at bs es next
+FilledBy None text at bs es = (more : List ℕ) → fits (bs ++ more) (words (drop at text)) ≡ false
 
 pub record TablesRead (text : List ℕ) (at : ℕ) (w : Pair) (right : Bool) : Type 0 where
   pub fit : right ≡ fits (widths (length w.sp) (length w.gp)) (words (drop at text))
@@ -58,6 +56,6 @@ pub record Ready (text : List ℕ) (next : ℕ) (w : Pair) : Type 0 where
   pub st_even : length w.st ≡ length w.sp
   pub gt_even : length w.gt ≡ length w.gp
 
-abbrev pub SizesBy : Sizes → List ℕ → Type 0
-SizesBy (Both p q next) text = SizesRead text p q next
-SizesBy (Refused r) text = verdict (count_rules text) ≡ refused_by r
+abbrev pub SizesBy : Result Sizes Refusal → List ℕ → Type 0
+SizesBy (Ok s) text = SizesRead text s.species s.genes s.next
+SizesBy (Err r) text = verdict (count_rules text) ≡ refused_by r

@@ -2,54 +2,52 @@
 -- Assumes nothing.
 use Prim.Native.Nat.{ℕ, ◌+◌, ◌*◌, ◌<◌, ◌≤◌}
 use native.Mathlib.Omega.{arith}
-use native.Mathlib.Numerals.{add-one}
-use mathlib.Core.Path.{◌≡◌, refl, sym, ◌∙◌}
+use mathlib.Core.Path.{◌≡◌, refl, sym, ap, ◌∙◌}
+use Rattle.std.proofs.Common.{false, not, ◌||◌, ◌++◌}
+use Rattle.std.proofs.lemmas.List.{take_more}
+use Rattle.words.specs.Entries.{EntryLaws}
 use mathlib.Core.Bool.{Bool, true, ◌&&◌}
 use mathlib.Core.List.{List, [], ◌∷◌}
 use lib.ListN.{length, get_or, take, drop}
-use lib.Seq.{take_all, take-suc, take-add}
-use lib.Dec.{eqb, eqb→eq}
+use lib.Seq.{take_all, take-add}
+use lib.Dec.{eqb}
 use borrow.Author.Tests.{eq-eqb}
 use Rattle.trees.specs.Spots.{nowhere, lowest_spot}
-use Rattle.trees.proofs.Bools.{true_T}
 use Rattle.trees.proofs.Lists.{lowest_none}
 use Rattle.trees.proofs.Spots.{spot_none}
 use Rattle.blocks.specs.Halves.{longs_of}
 use Rattle.blocks.specs.Blocks.{run, word, content}
-use Rattle.words.specs.Words.{offset, after, alike, agree, Within, Comparable}
-use Rattle.words.proofs.Tables.{length_longs, word_read, long_read}
-use Rattle.words.proofs.Fronts.{left, left_is, length_left, words_left, longs_left, one_read}
+use Rattle.words.specs.Words.{offset, after, alike, agree, Comparable}
+use Rattle.words.proofs.Tables.{word_read, long_read}
+use Rattle.words.proofs.Fronts.{left, left_is, length_left, entries_left}
 use Rattle.release.specs.Passing.{Starts}
 
 -- ---- what a loop notes
 
 -- the first k entries compared: nothing wrong was noted only if they are the same
-pub record Compared (old new : List ℕ) (wrong k : ℕ) : Type 0 where
+pub record Compared {E : Type 0} (old new : List E) (wrong : Bool) (k : ℕ) : Type 0 where
   pub low : k ≤ length old
-  pub long : length new ≡ length old
-  pub same : wrong ≡ 0 → take k old ≡ take k new
+  pub same : wrong ≡ false → take k old ≡ take k new
 
-pub compared_none : (old new : List ℕ) → length new ≡ length old → Compared old new 0 0
-compared_none old new e = record { low = omega arith; long = e; same = λ z. refl }
+module _ {E : Type 0} (old new : List E) where
+  pub compared_none : Compared old new false 0
+  compared_none = record { low = omega arith; same = λ z. refl }
 
-module _ (old new : List ℕ) (w k r : ℕ) (c : Compared old new w k) where
-  pub compared_same : (v : ℕ) → k < length old → v ≡ get_or new k 0 → v ≡ get_or old k 0 → r ≡ w → Compared old new r (k + 1)
-  compared_same v h e f g =
+  pub compared_more : (w d : Bool) (k : ℕ) (v x : E) → Compared old new w k → k < length old → take 1 (drop k new) ≡ v ∷ [] → x ≡ get_or old k x → (d ≡ false → v ≡ x) → Compared old new (w || d) (k + 1)
+  compared_more true d k v x c h e f g = record { low = omega arith; same = λ z. absurd (cc) }
+  compared_more false d k v x c h e f g =
       record {
         low = omega arith;
-        long = c.long;
-        same = λ z. rw (add-one, take-suc old k 0 h, take-suc new k 0 (omega (arith, c.long)), c.same (sym g ∙ z), ← e, ← f);
+        same = λ z. take_more old k x h ∙ ap (λ y. take k old ++ y ∷ []) (sym f ∙ sym (g z)) ∙ ap (λ l. l ++ v ∷ []) (c.same refl) ∙ sym (take-add k 1 new ∙ ap (λ l. take k new ++ l) e);
       }
 
-  pub compared_wrong : k < length old → r ≡ 1 → Compared old new r (k + 1)
-  compared_wrong h e = record { low = omega arith; long = c.long; same = λ z. absurd (omega arith) }
-
-pub compared_end : (old new : List ℕ) (w k : ℕ) → Compared old new w k → length old ≤ k → eqb w 0 ≡ true → old ≡ new
-compared_end old new w k c h e = sym (take_all k old h) ∙ c.same (eqb→eq w 0 (true_T e)) ∙ take_all k new (omega (arith, c.long))
+  pub compared_end : (w : Bool) (k : ℕ) → Compared old new w k → length old ≤ k → length new ≡ length old → not w ≡ true → old ≡ new
+  compared_end true k c h n e = absurd (cc)
+  compared_end false k c h n e = sym (take_all k old h) ∙ c.same refl ∙ take_all k new (omega arith)
 
 -- ---- the front of a table
 
-module _ (new old : List ℕ) where
+module _ {E : Type 0} (new old : List E) where
   starts_some : (k r : ℕ) → Starts new old k → Starts (drop k new) (left k old) r → Starts new old (k + r)
   starts_some k r p q =
       let e : take r (drop k old) ≡ take r (drop k new) = rw (left_is k old) at q.is in
@@ -58,21 +56,15 @@ module _ (new old : List ℕ) where
   pub starts_all : (k : ℕ) → Starts new old k → length old ≤ k → length new ≡ length old → old ≡ new
   starts_all k p h e = sym (take_all k old h) ∙ p.is ∙ take_all k new (omega arith)
 
-starts_one : (new old : List ℕ) → 0 < length old → 0 < length new → get_or old 0 0 ≡ get_or new 0 0 → Starts new old 1
-starts_one [] old h l e = absurd (omega arith)
-starts_one (y ∷ new) [] h l e = absurd (omega arith)
-starts_one (y ∷ new) (x ∷ old) h l e = record { low = omega arith; is = rw e }
+-- one entry alone
+pub starts_one : {E : Type 0} (new old : List E) (v x : E) → 0 < length old → take 1 new ≡ v ∷ [] → x ≡ get_or old 0 x → v ≡ x → Starts new old 1
+starts_one new [] v x h e f g = absurd (omega arith)
+starts_one new (y ∷ old) v x h e f g = record { low = omega arith; is = ap (λ z. z ∷ []) (sym f ∙ sym g) ∙ sym e }
 
-module _ (s : List ℕ) (i : ℕ) (old : List ℕ) (k r : ℕ) where
-  pub starts_words : Starts (run i (length old) (content s)) old k → Starts (run (i + k) (length (left k old)) (content s)) (left k old) r → Starts (run i (length old) (content s)) old (k + r)
-  starts_words p q = starts_some (run i (length old) (content s)) old k r p (rw (length_left k old, words_left i (length old) k (content s)) at q)
-
-  pub starts_longs : Starts (longs_of (run i (2 * length old) (content s))) old k → Starts (longs_of (run (i + 2 * k) (2 * length (left k old)) (content s))) (left k old) r → Starts (longs_of (run i (2 * length old) (content s))) old (k + r)
-  starts_longs p q = starts_some (longs_of (run i (2 * length old) (content s))) old k r p (rw (length_left k old, longs_left i (length old) k (content s)) at q)
-
--- a number that begins with the last word of a block
-pub one_starts : (s : List ℕ) (i n at : ℕ) → Within s i (2 * n) → 0 < n → at ≡ offset i → (old : List ℕ) → length old ≡ n → (v : ℕ) → v ≡ word s at + 65536 * word s (after at) → v ≡ get_or old 0 0 → Starts (longs_of (run i (2 * n) (content s))) old 1
-one_starts s i n at w h e old l v f g = starts_one _ old (omega arith) (omega (arith, length_longs s i n w)) (sym g ∙ one_read s i n at w h e old l v f)
+pub starts_entries : {E : Type 0} {size : ℕ} {entries : List ℕ → List E} (laws : EntryLaws size entries) (s : List ℕ) (i : ℕ) (old : List E) (k r : ℕ)
+    → Starts (entries (run i (size * length old) (content s))) old k → Starts (entries (run (i + size * k) (size * length (left k old)) (content s))) (left k old) r → Starts (entries (run i (size * length old) (content s))) old (k + r)
+starts_entries {E} {size} {entries} laws s i old k r p q =
+    starts_some (entries (run i (size * length old) (content s))) old k r p (rw (length_left k old, entries_left laws i (length old) k (content s)) at q)
 
 -- ---- two tables that are the same
 

@@ -3,6 +3,6 @@
 -- Assumes nothing.
 use Rattle.std.specs.Prelude.{ℕ, ◌≤◌, ◌≡◌, List, length, take}
 
-pub record Starts (new old : List ℕ) (r : ℕ) : Type 0 where
+pub record Starts {E : Type 0} (new old : List E) (r : ℕ) : Type 0 where
   pub low : r ≤ length old
   pub is : take r old ≡ take r new

@@ -3,113 +3,68 @@
 // whoever is told no looks for the place.
 #![tactic(auto)]
 
-ghost use Rattle.std.specs.Prelude.{◌≡◌, ◌+◌, ◌*◌, ◌<◌, true, ◌&&◌, length, eqb};
-ghost use Rattle.blocks.specs.Halves.{words_of, longs_of};
+ghost use Rattle.std.specs.Prelude.{◌≡◌, ◌+◌, ◌*◌, ◌<◌, true, false, ◌&&◌, length, eqb, IfSome};
+ghost use Rattle.blocks.specs.Halves.{words_of};
 ghost use Rattle.blocks.specs.Blocks.{run, word, content};
 ghost use Rattle.words.specs.Words.{after, Within, Comparable};
 ghost use Rattle.release.specs.Passing.{Starts};
 ghost use Rattle.release.specs.Promises.{FirstDifferenceMeets};
 
 use blocks::word;
-use trees::{SpeciesNode, SpeciesSpot};
-use words::{at, piece};
+use trees::{SpeciesNode, Tree};
+use words::at;
+use words::entry::Entry;
 
-// Is the table of 2 bytes an entry this one?
-fn equal_words(bytes: &[u8], words: &[u16]) -> bool
-    requires { length bytes.now ≡ 2 * length words.now }
-    ensures { result ≡ true → words.now ≡ words_of bytes.now }
+// Do two entries differ? If not, they are the same.
+fn differ<T: Entry>(a: T, b: T) -> bool
+    ensures { result ≡ false → a ≡ b }
 {
-    let mut wrong: u16 = 0;
-    let mut k: usize = 0;
-    while k < words.len() {
-        wrong = if word::word_at(bytes, 2 * k) == words[k] {
-            wrong
-        } else {
-            1
-        };
-        k += 1;
-    }
-    wrong == 0
+    a != b
 }
 
-// Is the table of 4 bytes an entry this one?
-fn equal_longs(bytes: &[u8], longs: &[u32]) -> bool
-    requires { length bytes.now ≡ 4 * length longs.now }
-    ensures { result ≡ true → longs.now ≡ longs_of (words_of bytes.now) }
+// Is the table whose bytes stand side by side this one?
+fn equal<T: Entry>(bytes: &[u8], table: &[T]) -> bool
+    requires { length bytes.now ≡ 2 * (T.WORDS * length table.now) }
+    ensures { result ≡ true → table.now ≡ T.entries (words_of bytes.now) }
 {
-    let mut wrong: u32 = 0;
-    let mut k: usize = 0;
-    while k < longs.len() {
-        wrong = if piece::long_from(bytes, 4 * k) == longs[k] {
-            wrong
-        } else {
-            1
-        };
-        k += 1;
+    let mut wrong = false;
+    for (k, x) in table.iter().enumerate() {
+        wrong |= differ(T::nth(bytes, k), *x);
     }
-    wrong == 0
+    !wrong
 }
 
-// How many entries from the front on are the words from i on, as far as the block of word i goes; 0 where they are not.
-fn matching_words(image: &[u8], i: usize, words: &[u16]) -> usize
-    requires { Within image.now i (length words.now) × (0 < length words.now) }
-    ensures { Starts (run i (length words.now) (content image.now)) words.now result }
+// How many entries from the front on stand from word i on, as far as the block of word i goes, if they do. An entry that begins in one
+// block and ends in the next is compared by itself.
+fn matching<T: Entry>(image: &[u8], i: usize, table: &[T]) -> Option<usize>
+    requires { Within image.now i (T.WORDS * length table.now) × (0 < length table.now) }
+    ensures { IfSome result (λ m. (0 < m) × Starts (T.entries (run i (T.WORDS * length table.now) (content image.now))) table.now m) }
 {
-    let m = at::together(i, words.len());
-    if equal_words(at::bytes_of(image, i, m), &words[..m]) {
-        m
-    } else {
-        0
-    }
-}
-
-// Are the words from i on these?
-fn same_words(image: &[u8], i: usize, words: &[u16]) -> bool
-    requires { Within image.now i (length words.now) }
-    ensures { result ≡ true → words.now ≡ run i (length words.now) (content image.now) }
-{
-    let mut k: usize = 0;
-    while k < words.len() {
-        let m = matching_words(image, i + k, &words[k..]);
-        if m == 0 {
-            return false;
-        }
-        k += m;
-    }
-    true
-}
-
-// The same of the words from i on, two to an entry. An entry that begins with the last word of a block is compared by itself.
-fn matching_longs(image: &[u8], i: usize, longs: &[u32]) -> usize
-    requires { Within image.now i (2 * length longs.now) × (0 < length longs.now) }
-    ensures { Starts (longs_of (run i (2 * length longs.now) (content image.now))) longs.now result }
-{
-    let m = at::together(i, 2 * longs.len()) / 2;
+    let m = at::together(i, T::WORDS * table.len()) / T::WORDS;
     if m == 0 {
-        return if at::long_at(image, at::offset_of(i)) == longs[0] {
-            1
+        return if differ(T::from_word(image, i), table[0]) {
+            None
         } else {
-            0
+            Some(1)
         };
     }
-    if equal_longs(at::bytes_of(image, i, 2 * m), &longs[..m]) {
-        m
+    if equal(at::bytes_of(image, i, T::WORDS * m), &table[..m]) {
+        Some(m)
     } else {
-        0
+        None
     }
 }
 
-// Are the words from i on, two to an entry, these?
-fn same_longs(image: &[u8], i: usize, longs: &[u32]) -> bool
-    requires { Within image.now i (2 * length longs.now) }
-    ensures { result ≡ true → longs.now ≡ longs_of (run i (2 * length longs.now) (content image.now)) }
+// Are the entries from word i on these?
+fn same<T: Entry>(image: &[u8], i: usize, table: &[T]) -> bool
+    requires { Within image.now i (T.WORDS * length table.now) }
+    ensures { result ≡ true → table.now ≡ T.entries (run i (T.WORDS * length table.now) (content image.now)) }
 {
     let mut k: usize = 0;
-    while k < longs.len() {
-        let m = matching_longs(image, i + 2 * k, &longs[k..]);
-        if m == 0 {
+    while k < table.len() {
+        let Some(m) = matching(image, i + T::WORDS * k, &table[k..]) else {
             return false;
-        }
+        };
         k += m;
     }
     true
@@ -124,34 +79,31 @@ fn same_at(image: &[u8], a: usize, b: usize, parent: u16, taxon: u32) -> bool
 }
 
 // The lowest species node at which the two tables that stand from word i on, parents and then taxa, are not these.
-fn lowest_difference(image: &[u8], i: usize, parents: &[u16], taxa: &[u32]) -> SpeciesSpot
-    requires { Comparable image.now i parents.now taxa.now }
-    ensures { FirstDifferenceMeets image.now i parents.now taxa.now result }
+fn lowest_difference(image: &[u8], i: usize, species: &Tree<'_>) -> Option<SpeciesNode>
+    requires { Comparable image.now i species.now.parents.now species.now.taxa.now }
+    ensures { FirstDifferenceMeets image.now i species.now.parents.now species.now.taxa.now result }
 {
+    let n = species.parents.len();
     let mut a = at::offset_of(i);
-    let mut b = at::offset_of(i + parents.len());
-    let mut v: usize = 0;
-    while v < parents.len() {
-        if same_at(image, a, b, parents[v], taxa[v]) {
-            a = at::next(a);
-            b = at::next(at::next(b));
-            v += 1;
-        } else {
-            return SpeciesSpot::At(SpeciesNode(v));
+    let mut b = at::offset_of(i + n);
+    for v in 0..n {
+        if !same_at(image, a, b, species.parents[v], species.taxa[v]) {
+            return Some(SpeciesNode(v));
         }
+        a = at::next(a);
+        b = at::next(at::next(b));
     }
-    SpeciesSpot::Nowhere
+    None
 }
 
 // The same, asked first whether there is any.
-pub fn first_difference(image: &[u8], i: usize, parents: &[u16], taxa: &[u32]) -> SpeciesSpot
-    requires { Comparable image.now i parents.now taxa.now }
-    ensures { FirstDifferenceMeets image.now i parents.now taxa.now result }
+pub fn first_difference(image: &[u8], i: usize, species: &Tree<'_>) -> Option<SpeciesNode>
+    requires { Comparable image.now i species.now.parents.now species.now.taxa.now }
+    ensures { FirstDifferenceMeets image.now i species.now.parents.now species.now.taxa.now result }
 {
-    if same_words(image, i, parents) {
-        if same_longs(image, i + parents.len(), taxa) {
-            return SpeciesSpot::Nowhere;
-        }
+    let parents = species.parents;
+    if same(image, i, parents) && same(image, i + parents.len(), species.taxa) {
+        return None;
     }
-    lowest_difference(image, i, parents, taxa)
+    lowest_difference(image, i, species)
 }

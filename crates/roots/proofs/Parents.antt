@@ -15,7 +15,7 @@ use Rattle.trees.specs.Rules.{parented, topped, reaching, root_rules}
 use Rattle.trees.proofs.Bools.{true_T}
 use Rattle.trees.proofs.Lists.{any_more}
 use Rattle.trees.proofs.Lines.{up_at}
-use Rattle.trees.proofs.Rulings.{ruling_pass, ruling_fail, ruling_all, ruling_stays, ruling_accepted, each_fails, each_passes}
+use Rattle.trees.proofs.Rulings.{ruling_pass, ruling_fail, ruling_stays, verdict_left, each_fails, each_passes}
 use Rattle.roots.specs.Promises.{parent_rules}
 
 -- ---- parents first
@@ -43,14 +43,6 @@ pub not_first : (par : List ℕ) → 0 < length par → get_or par 0 0 ≢ 65535
 not_first par h n F = n (sym (up_at par 0 h) ∙ F.top)
 
 -- ---- rule 2
-
-pub and_yes : (b : Bool) → b ≡ (b && true)
-and_yes true = refl
-and_yes false = refl
-
-pub and_not : (b : Bool) → false ≡ (b && false)
-and_not true = refl
-and_not false = refl
 
 module _ (par : List ℕ) (i : ℕ) (h : i < length par) where
   pub parented_by : (seen : Bool) → seen ≡ any (is_root par) (range 0 i) → (ltb (get_or par i 0) (length par) || (eqb (get_or par i 0) 65535 && not seen)) ≡ parented par i
@@ -86,7 +78,7 @@ module _ (t : ℕ) (par : List ℕ) where
 
   pub roots_left : verdict (parent_rules t par) ≡ accepted fine → verdict (root_rules t par) ≡ verdict (each 38 t (length par) (reaching par) ∷ [])
   unfolding root_rules
-  roots_left e = ruling_all (parent_rules t par) (each 38 t (length par) (reaching par) ∷ []) fine (ruling_accepted (parent_rules t par) fine fine e).0
+  roots_left e = verdict_left (parent_rules t par) (each 38 t (length par) (reaching par) ∷ []) e
 
   -- by the lowest node that never reaches the root
   module _ (e : verdict (parent_rules t par) ≡ accepted fine) (v : ℕ) (l : v ≡ lowest (reaching par) (length par)) where

@@ -10,7 +10,7 @@ use Rattle.trees.specs.First.{ParentsFirst}
 use Rattle.trees.specs.Rulings.{Rule, whole, each, verdict}
 use Rattle.trees.specs.Rules.{parented, topped, root_rules}
 use Rattle.trees.specs.Answers.{judged_of}
-use Rattle.trees.specs.declared.Judged.{Judged}
+use Rattle.trees.specs.Answers.{Judged}
 
 abbrev pub parent_rules : ℕ → List ℕ → List Rule
 parent_rules tree par = each 2 tree (length par) (parented par) ∷ whole 2 tree none (topped par) ∷ []

@@ -8,7 +8,7 @@
 ghost use Rattle.std.specs.Prelude.{◌≡◌, not, ◌&&◌, ◌||◌, ◌≤◌, length, eqb, ltb};
 ghost use Rattle.roots.specs.Promises.{InOrderMeets, JudgeParentsMeets};
 
-use trees::{Judged, refuse};
+use trees::{Refusal, refuse};
 
 // Has the table parents first?
 pub fn in_order(parents: &[u16]) -> bool
@@ -18,12 +18,9 @@ pub fn in_order(parents: &[u16]) -> bool
     if parents[0] != 65535 {
         return false;
     }
-    let n = parents.len();
     let mut wrong: u16 = 0;
-    let mut i: usize = 1;
-    while i < n {
+    for i in 1..parents.len() {
         wrong = passes::noted(wrong, parents[i] < (i as u16));
-        i += 1;
     }
     wrong == 0
 }
@@ -32,41 +29,32 @@ pub fn in_order(parents: &[u16]) -> bool
 fn parented_at(n: usize, parent: u16, seen: bool) -> bool
     ensures { result ≡ (ltb parent n || (eqb parent 65535 && not seen)) }
 {
-    if (parent as usize) < n {
-        return true;
-    }
-    if seen {
-        return false;
-    }
-    parent == 65535
+    usize::from(parent) < n || (parent == 65535 && !seen)
 }
 
 // Is there a root, now that this parent has been looked at too?
 fn or_root(parent: u16, seen: bool) -> bool
     ensures { result ≡ (seen || eqb parent 65535) }
 {
-    if seen { true } else { parent == 65535 }
+    seen || parent == 65535
 }
 
 // Rule 2: refused at the lowest node whose parent is not under n or that is a second root, else at 65,535 if there is no root.
-pub fn judge_parents(tree: u16, parents: &[u16]) -> Judged
+pub fn judge_parents(tree: u16, parents: &[u16]) -> Result<(), Refusal>
     requires { length parents.now ≤ 2047 }
     ensures { JudgeParentsMeets tree parents.now result }
 {
     let n = parents.len();
     let mut seen = false;
-    let mut i: usize = 0;
-    while i < n {
+    for i in 0..n {
         let parent = parents[i];
-        if parented_at(n, parent, seen) {
-            seen = or_root(parent, seen);
-            i += 1;
-        } else {
-            return Judged::Refused(refuse(2, tree, i));
+        if !parented_at(n, parent, seen) {
+            return Err(refuse(2, tree, i));
         }
+        seen = or_root(parent, seen);
     }
     if seen {
-        return Judged::Sound;
+        return Ok(());
     }
-    Judged::Refused(refuse(2, tree, 65535))
+    Err(refuse(2, tree, 65535))
 }

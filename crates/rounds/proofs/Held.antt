@@ -1,35 +1,35 @@
 -- Rule 6 by rounds: a gene leaf is counted in the one round that its species stands in, so that as many counted as there are leaves
 -- means that each has a species. Assumes nothing.
+use Rattle.std.specs.Prelude.{Some, Option, is_some}
 use Prim.Native.Nat.{ℕ, ◌+◌, ◌≤◌, ◌<◌}
 use native.Mathlib.Omega.{arith}
 use native.Mathlib.Decide.{ℕ_discrete, dec_lt}
 use mathlib.Core.Path.{◌≡◌, sym, ◌∙◌}
 use mathlib.Core.Logic.{inl, inr, ◌≢◌}
-use mathlib.Core.Bool.{false, not}
+use mathlib.Core.Bool.{Bool, true, false}
 use mathlib.Core.List.{List, [], ◌∷◌}
 use lib.ListN.{length, take}
 use lib.Seq.{length-take-le, get_or-take}
 use lib.Dec.{T, eqb, ltb, eqb→eq}
+use mir.Val.{bool_byte}
 use borrow.Author.Tests.{ne_eqb, lt-ltb, le-ltb}
 use Rattle.trees.specs.Lists.{range, has, total, one}
 use Rattle.trees.specs.Tables.{taxon}
 use Rattle.trees.specs.declared.SpeciesNode.{SpeciesNode}
-use Rattle.trees.specs.declared.SpeciesSpot.{SpeciesSpot}
-use Rattle.trees.specs.declared.SpeciesSpot.TheVariants.{At}
 use Rattle.trees.proofs.Bools.{or_left, or_right, or_cases, test, true_T}
 use Rattle.trees.proofs.Lists.{has_cases, has_range, total_le, total_more}
 use Rattle.taxa.specs.Searches.{taxon_at, fresh_taxon, known_taxon}
 use Rattle.taxa.specs.Chains.{Alone, AllKnown}
 use Rattle.taxa.specs.Promises.{SpeciesOfMeets}
 use Rattle.taxa.proofs.Tests.{taxon_cases}
-use Rattle.taxa.proofs.Chains.{missed, known_by}
+use Rattle.taxa.proofs.Chains.{known_by}
 use Rattle.hints.specs.Hints.{ask_of}
 use Rattle.hints.proofs.Asked.{ask_at}
 use Rattle.rounds.specs.Rounds.{leaf, held, leaves_to, held_to}
 use Rattle.rounds.proofs.Repeats.{scan_by}
 
 -- rule 6 at a gene leaf, by a scan of the species nodes
-pub scan_known : (st gt : List ℕ) (x : ℕ) → taxon gt x ≢ 0 → (r : SpeciesSpot) → SpeciesOfMeets st (taxon gt x) r → known_taxon st gt x ≡ not (missed r)
+pub scan_known : (st gt : List ℕ) (x : ℕ) → taxon gt x ≢ 0 → (r : Option SpeciesNode) → SpeciesOfMeets st (taxon gt x) r → known_taxon st gt x ≡ is_some r
 scan_known st gt x n r e = known_by st gt x n r (scan_by st (taxon gt x) r e)
 
 -- ---- no species taxon stands twice
@@ -81,8 +81,9 @@ module _ (st gt : List ℕ) where
   ]
 
   -- what is counted of a gene node: nothing, or the one whose species is found in the round
-  pub counts_none : (a b x : ℕ) → a ≤ b → (0 ≤ 1) × (0 + one (held st gt a x) ≤ one (held st gt b x))
-  counts_none a b x h = (omega arith, omega (arith, held_more a b x h))
+  pub counts_none : (a b x : ℕ) → a ≤ b → one false + one (held st gt a x) ≤ one (held st gt b x)
+  unfolding one
+  counts_none a b x h = omega (arith, held_more a b x h)
 
   held_new : Alone st → (a b x s : ℕ) → taxon gt x ≢ 0 → s < length st → taxon st s ≡ taxon gt x → a ≤ s → s < b → 1 + one (held st gt a x) ≤ one (held st gt b x)
   unfolding held leaf one
@@ -90,11 +91,15 @@ module _ (st gt : List ℕ) where
       let k : taxon_at st (taxon gt x) ≡ s = alone_at A (taxon gt x) s n h e in
       rw (ne_eqb (taxon gt x) 0 n, k, le-ltb s a l, lt-ltb s b m) (omega arith)
 
-  pub counts_one : Alone st → (hints : List ℕ) (a b x : ℕ) (r : SpeciesSpot) (s : SpeciesNode) → taxon gt x ≢ 0 → r ≡ ask_of st hints (taxon gt x) → r ≡ At s → a ≤ s.0 → s.0 < b
-      → (1 ≤ 1) × (1 + one (held st gt a x) ≤ one (held st gt b x))
-  counts_one A hints a b x r s n e f l m =
+  pub counts_one : Alone st → (hints : List ℕ) (a b x : ℕ) (r : Option SpeciesNode) (s : SpeciesNode) → a ≤ b → taxon gt x ≢ 0 → r ≡ ask_of st hints (taxon gt x) → r ≡ Some s → a ≤ s.0
+      → one (ltb s.0 b) + one (held st gt a x) ≤ one (held st gt b x)
+  unfolding one
+  counts_one A hints a b x r s h n e f l =
       let k = ask_at st hints (taxon gt x) s (sym e ∙ f) in
-      (omega arith, held_new A a b x s.0 n k.0 k.1 l m)
+      elim (dec_lt s.0 b) [
+        | yes m ↦ rw (lt-ltb s.0 b m) (held_new A a b x s.0 n k.0 k.1 l m)
+        | no m ↦ rw (le-ltb s.0 b (omega arith)) (counts_none a b x h)
+      ]
 
   held_not : (b x : ℕ) → ltb (taxon_at st (taxon gt x)) b ≡ false → one (held st gt b x) ≡ 0
   unfolding held one
@@ -123,14 +128,21 @@ sums_same f g (y ∷ l) h e x t =
       | inr r ↦ sums_same f g l h (omega (arith, e, h y)) x r
     ]
 
--- one gene node more
-pub leaves_more : (gt : List ℕ) (i c r : ℕ) → r ≡ one (not (eqb (taxon gt i) 0)) → c ≡ leaves_to gt i → c + r ≡ leaves_to gt (i + 1)
-unfolding leaf
-leaves_more gt i c r e h = omega (arith, total_more (λ x. one (leaf gt x)) i)
+-- one gene node more counted
+pub leaves_more : (gt : List ℕ) (i n r : ℕ) → r ≡ bool_byte (leaf gt i) → (n ≤ i) × (n ≡ leaves_to gt i) → (n + r ≤ i + 1) × (n + r ≡ leaves_to gt (i + 1))
+unfolding one
+leaves_more gt i n r e k =
+    let more = total_more (λ x. one (leaf gt x)) i in
+    elim (test (leaf gt i)) [
+      | inl t ↦ let q : r ≡ 1 = rw t at e in (omega (arith, q, k.0), omega (arith, q, k.1, rw t at more))
+      | inr t ↦ let q : r ≡ 0 = rw t at e in (omega (arith, q, k.0), omega (arith, q, k.1, rw t at more))
+    ]
 
-pub round_more : (st gt : List ℕ) (a b i c r : ℕ) → r + one (held st gt a i) ≤ one (held st gt b i) → c + held_to st gt a i ≤ held_to st gt b i
-    → (c + r) + held_to st gt a (i + 1) ≤ held_to st gt b (i + 1)
-round_more st gt a b i c r e h = omega (arith, total_more (λ x. one (held st gt a x)) i, total_more (λ x. one (held st gt b x)) i)
+pub round_more : (st gt : List ℕ) (a b i n m : ℕ) (d : Bool) → m ≡ n + one d → one d + one (held st gt a i) ≤ one (held st gt b i)
+    → (n ≤ i) × (n + held_to st gt a i ≤ held_to st gt b i) → (m ≤ i + 1) × (m + held_to st gt a (i + 1) ≤ held_to st gt b (i + 1))
+unfolding one
+round_more st gt a b i n m true q e h = (omega (arith, q, h.0), omega (arith, q, e, h.1, total_more (λ x. one (held st gt a x)) i, total_more (λ x. one (held st gt b x)) i))
+round_more st gt a b i n m false q e h = (omega (arith, q, h.0), omega (arith, q, e, h.1, total_more (λ x. one (held st gt a x)) i, total_more (λ x. one (held st gt b x)) i))
 
 pub held_few : (st gt : List ℕ) (b i : ℕ) → held_to st gt b i ≤ leaves_to gt i
 held_few st gt b i = total_le (λ x. one (held st gt b x)) (λ x. one (leaf gt x)) (range 0 i) (λ x t. held_leaf st gt b x)

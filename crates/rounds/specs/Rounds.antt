@@ -6,15 +6,14 @@
 --   held st gt b x        == does it, and does its taxon stand at a species node below b?
 --   leaves_to gt i, held_to st gt b i == how many of the first i gene nodes do
 -- Assumes nothing.
-use Rattle.std.specs.Prelude.{ℕ, ◌≤◌, ◌<◌, ◌≡◌, ◌⊎◌, ◌≢◌, Bool, not, ◌&&◌, List, length, T, eqb, ltb}
+use Rattle.std.specs.Prelude.{ℕ, ◌≤◌, ◌<◌, ◌≡◌, ◌⊎◌, ◌≢◌, Bool, not, ◌&&◌, List, length, T, eqb, ltb, Some, None}
 use Rattle.trees.specs.Lists.{range, total, one}
 use Rattle.trees.specs.Tables.{taxon}
-use Rattle.trees.specs.declared.SpeciesSpot.TheVariants.{At, Nowhere}
 use Rattle.taxa.specs.Searches.{taxon_at, fresh_taxon}
 use Rattle.hints.specs.Hints.{ask_of}
 
 pub record Apart (st hints : List ℕ) (to j : ℕ) : Type 0 where
-  pub told : taxon st j ≢ 0 → (ask_of st hints (taxon st j) ≡ At (record { 0 = j })) ⊎ ((ask_of st hints (taxon st j) ≡ Nowhere) × (to ≤ j))
+  pub told : taxon st j ≢ 0 → (ask_of st hints (taxon st j) ≡ Some (record { 0 = j })) ⊎ ((ask_of st hints (taxon st j) ≡ None) × (to ≤ j))
 
 pub record Unlike (st : List ℕ) (k : ℕ) : Type 0 where
   pub other : (i j : ℕ) → i < k → i < j → j < length st → taxon st i ≢ 0 → taxon st j ≢ taxon st i

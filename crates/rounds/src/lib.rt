@@ -10,39 +10,32 @@ ghost use Rattle.taxa.specs.Chains.{Alone, AllKnown};
 ghost use Rattle.taxa.specs.Promises.{JudgeRepeatsMeets, JudgeKnownMeets};
 ghost use Rattle.rounds.specs.Rounds.{Apart, AllFresh, held, held_to, leaves_to};
 
-use trees::{GeneNode, Judged, SpeciesNode, SpeciesSpot, refuse};
+use trees::{GeneNode, Refusal, SpeciesNode, judge_each};
 
 // ---- rule 5
 
 // Does the table of a round that ends at `to` tell this node from the round's leaves? It does if it finds the node itself, or finds
 // nothing for a node behind the round.
-fn apart_at(species_taxa: &[u32], hints: &[u16], to: usize, node: SpeciesNode) -> bool
-    requires { (length hints.now ≡ 512) × (node.0 < length species_taxa.now) }
+fn apart_at(species_taxa: &[u32], hints: &[u16; 512], to: usize, node: SpeciesNode) -> bool
+    requires { node.0 < length species_taxa.now }
     ensures { T result → Apart species_taxa.now hints.now to node.0 }
 {
-    let j = node.0;
-    let taxon = species_taxa[j];
+    let taxon = species_taxa[node.0];
     if taxon == 0 {
         return true;
     }
-    let found = hints::ask(species_taxa, hints, taxon);
-    match found {
-        SpeciesSpot::At(s) => s.0 == j,
-        SpeciesSpot::Nowhere => to <= j,
+    match hints::ask(species_taxa, hints, taxon) {
+        Some(found) => found == node,
+        None => to <= node.0,
     }
 }
 
 // Does it tell every node from `from` on?
-fn round_apart(species_taxa: &[u32], hints: &[u16], from: usize, to: usize) -> bool
-    requires { length hints.now ≡ 512 }
+fn round_apart(species_taxa: &[u32], hints: &[u16; 512], from: usize, to: usize) -> bool
     ensures { T result → (j : ℕ) → from ≤ j → j < length species_taxa.now → Apart species_taxa.now hints.now to j }
 {
-    let n = species_taxa.len();
-    let mut j = from;
-    while j < n {
-        if apart_at(species_taxa, hints, to, SpeciesNode(j)) {
-            j += 1;
-        } else {
+    for j in from..species_taxa.len() {
+        if !apart_at(species_taxa, hints, to, SpeciesNode(j)) {
             return false;
         }
     }
@@ -50,19 +43,18 @@ fn round_apart(species_taxa: &[u32], hints: &[u16], from: usize, to: usize) -> b
 }
 
 // Is it certain that no taxon stands twice? The table is filled anew for each round.
-fn all_apart(species_taxa: &[u32], hints: &mut [u16]) -> bool
-    requires { (length species_taxa.now ≤ 2047) × (length hints.old ≡ 512) }
+fn all_apart(species_taxa: &[u32], hints: &mut [u16; 512]) -> bool
+    requires { length species_taxa.now ≤ 2047 }
     ensures { T result → AllFresh species_taxa.now }
 {
     let n = species_taxa.len();
     let mut from: usize = 0;
     while from < n {
         let to = hints::enter(species_taxa, hints, from);
-        if round_apart(species_taxa, hints, from, to) {
-            from = to;
-        } else {
+        if !round_apart(species_taxa, hints, from, to) {
             return false;
         }
+        from = to;
     }
     true
 }
@@ -72,115 +64,92 @@ fn fresh_at(species_taxa: &[u32], node: SpeciesNode) -> bool
     requires { node.0 < length species_taxa.now }
     ensures { result ≡ fresh_taxon species_taxa.now node.0 }
 {
-    let i = node.0;
-    let taxon = species_taxa[i];
-    if taxon == 0 {
-        return true;
-    }
-    let found = taxa::species_of(&species_taxa[..i], taxon);
-    let SpeciesSpot::Nowhere = found else {
-        return false;
-    };
-    true
+    let taxon = species_taxa[node.0];
+    taxon == 0 || taxa::species_of(&species_taxa[..node.0], taxon).is_none()
 }
 
 // Rule 5, of species tables of which rule 4 holds: refused at the lowest leaf whose taxon stands at a lower leaf too.
-pub fn judge_repeats(species_taxa: &[u32], hints: &mut [u16]) -> Judged
-    requires { (length species_taxa.now ≤ 2047) × (length hints.old ≡ 512) }
+pub fn judge_repeats(species_taxa: &[u32], hints: &mut [u16; 512]) -> Result<(), Refusal>
+    requires { length species_taxa.now ≤ 2047 }
     ensures { JudgeRepeatsMeets species_taxa.now result }
 {
     if all_apart(species_taxa, hints) {
-        return Judged::Sound;
+        return Ok(());
     }
-    let n = species_taxa.len();
-    let mut i: usize = 0;
-    while i < n {
-        if fresh_at(species_taxa, SpeciesNode(i)) {
-            i += 1;
-        } else {
-            return Judged::Refused(refuse(5, 1, i));
-        }
-    }
-    Judged::Sound
+    judge_each(
+        5,
+        1,
+        species_taxa.len(),
+        |i| fresh_at(species_taxa, SpeciesNode(i)),
+    )
 }
 
 // ---- rule 6
-
-// 1 for the taxon of a leaf, 0 for that of an inner node.
-fn one_leaf(taxon: u32) -> usize
-    ensures { (result ≡ one (not (eqb taxon 0))) × (result ≤ 1) }
-{
-    if taxon == 0 { 0 } else { 1 }
-}
 
 // How many gene nodes are leaves.
 fn count_leaves(gene_taxa: &[u32]) -> usize
     ensures { result ≡ leaves_to gene_taxa.now (length gene_taxa.now) }
 {
-    let n = gene_taxa.len();
     let mut count: usize = 0;
-    let mut i: usize = 0;
-    while i < n {
-        count += one_leaf(gene_taxa[i]);
-        i += 1;
+    for &taxon in gene_taxa {
+        count += usize::from(taxon != 0);
     }
     count
 }
 
-// 1 if this gene node is a leaf whose species the hints find in the round, else 0.
+// Is this gene node a leaf whose species the hints find in the round?
 #[tactic(auto, using(crate::proofs::Held::counts_none))]
 fn held_at(
     species_taxa: &[u32],
-    hints: &[u16],
+    hints: &[u16; 512],
     from: usize,
     to: usize,
     gene_taxa: &[u32],
     node: GeneNode,
-) -> usize
-    requires { (length hints.now ≡ 512) × (from ≤ to) × (node.0 < length gene_taxa.now) × Alone species_taxa.now }
-    ensures { (result ≤ 1) × (result + one (held species_taxa.now gene_taxa.now from node.0) ≤ one (held species_taxa.now gene_taxa.now to node.0)) }
+) -> bool
+    requires { (from ≤ to) × (node.0 < length gene_taxa.now) × Alone species_taxa.now }
+    ensures { one result + one (held species_taxa.now gene_taxa.now from node.0) ≤ one (held species_taxa.now gene_taxa.now to node.0) }
 {
     let x = node.0;
     let sought = gene_taxa[x];
     if sought == 0 {
-        return 0;
+        return false;
     }
     let found = hints::ask(species_taxa, hints, sought);
-    let SpeciesSpot::At(home) = found else {
-        return 0;
+    let Some(home) = found else {
+        return false;
     };
     let s = home.0;
     if s < from {
-        return 0;
+        return false;
     }
-    if s < to { 1 } else { 0 }
+    s < to
 }
 
 // How many gene leaves have a species that the hints find in the round.
 fn count_held(
     species_taxa: &[u32],
-    hints: &[u16],
+    hints: &[u16; 512],
     from: usize,
     to: usize,
     gene_taxa: &[u32],
 ) -> usize
-    requires { (length hints.now ≡ 512) × (from ≤ to) × Alone species_taxa.now }
+    requires { (from ≤ to) × Alone species_taxa.now }
     ensures { result + held_to species_taxa.now gene_taxa.now from (length gene_taxa.now) ≤ held_to species_taxa.now gene_taxa.now to (length gene_taxa.now) }
 {
-    let n = gene_taxa.len();
     let mut count: usize = 0;
-    let mut i: usize = 0;
-    while i < n {
-        count += held_at(species_taxa, hints, from, to, gene_taxa, GeneNode(i));
-        i += 1;
+    for i in 0..gene_taxa.len() {
+        if held_at(species_taxa, hints, from, to, gene_taxa, GeneNode(i)) {
+            count += 1;
+        }
     }
     count
 }
 
 // Is it certain that each gene taxon is a species taxon? The table is filled anew for each round. No leaf is counted in two rounds,
 // since no species taxon stands twice.
-fn all_held(species_taxa: &[u32], hints: &mut [u16], gene_taxa: &[u32]) -> bool
-    requires { Alone species_taxa.now × (length hints.old ≡ 512) }
+fn all_held(species_taxa: &[u32], hints: &mut [u16; 512], gene_taxa: &[u32]) -> bool
+    requires { Alone species_taxa.now }
     ensures { T result → AllKnown species_taxa.now gene_taxa.now }
 {
     let leaves = count_leaves(gene_taxa);
@@ -200,35 +169,27 @@ fn known_at(species_taxa: &[u32], gene_taxa: &[u32], node: GeneNode) -> bool
     requires { node.0 < length gene_taxa.now }
     ensures { result ≡ known_taxon species_taxa.now gene_taxa.now node.0 }
 {
-    let x = node.0;
-    let sought = gene_taxa[x];
-    if sought == 0 {
-        return true;
-    }
-    let found = taxa::species_of(species_taxa, sought);
-    let SpeciesSpot::Nowhere = found else {
-        return true;
-    };
-    false
+    let sought = gene_taxa[node.0];
+    sought == 0 || taxa::species_of(species_taxa, sought).is_some()
 }
 
 // Rule 6, where rule 4 has passed in both trees and no species taxon stands twice: refused at the lowest gene leaf whose taxon is no
 // species taxon.
-pub fn judge_known(species_taxa: &[u32], gene_taxa: &[u32], hints: &mut [u16]) -> Judged
-    requires { Alone species_taxa.now × (length hints.old ≡ 512) }
+pub fn judge_known(
+    species_taxa: &[u32],
+    gene_taxa: &[u32],
+    hints: &mut [u16; 512],
+) -> Result<(), Refusal>
+    requires { Alone species_taxa.now }
     ensures { JudgeKnownMeets species_taxa.now gene_taxa.now result }
 {
     if all_held(species_taxa, hints, gene_taxa) {
-        return Judged::Sound;
+        return Ok(());
     }
-    let n = gene_taxa.len();
-    let mut i: usize = 0;
-    while i < n {
-        if known_at(species_taxa, gene_taxa, GeneNode(i)) {
-            i += 1;
-        } else {
-            return Judged::Refused(refuse(6, 2, i));
-        }
-    }
-    Judged::Sound
+    judge_each(
+        6,
+        2,
+        gene_taxa.len(),
+        |i| known_at(species_taxa, gene_taxa, GeneNode(i)),
+    )
 }

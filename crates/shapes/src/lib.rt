@@ -5,15 +5,14 @@
 // eight nodes a step of it. Only where something is wrong a second pass looks for the lowest node.
 #![tactic(auto)]
 
-ghost use Rattle.std.specs.Prelude.{◌≡◌, not, ℕ, ◌≤◌, ◌<◌, length, get_or, T, eqb};
-ghost use Rattle.trees.specs.Lists.{lowest, one};
+ghost use Rattle.std.specs.Prelude.{◌≡◌, ℕ, ◌≤◌, ◌<◌, length, get_or, T};
 ghost use Rattle.trees.specs.Rulings.{verdict};
 ghost use Rattle.trees.specs.Rules.{sized, child_rules};
 ghost use Rattle.trees.specs.Answers.{judged_of};
 ghost use Rattle.shapes.specs.Counts.{paired_count, marked_count, wanted_count, ChildCounts, Zeros};
-ghost use Rattle.shapes.specs.Promises.{JudgeShapeMeets};
+ghost use Rattle.shapes.specs.Promises.{WantedMeets, PairedMeets, MarkedMeets, JudgeShapeMeets};
 
-use trees::{Judged, refuse};
+use trees::{Refusal, Tree, judge_each};
 
 // ---- the children of each node
 
@@ -23,14 +22,10 @@ fn count_children(parents: &[u16], counts: &mut [u16])
     ensures { ChildCounts parents.now counts.new }
 {
     let n = parents.len();
-    let mut i: usize = 0;
-    while i < n {
-        let u = parents[i] as usize;
+    for &parent in parents {
+        let u = usize::from(parent);
         if u < n {
-            counts[u] = counts[u] + 1;
-            i += 1;
-        } else {
-            i += 1;
+            counts[u] += 1;
         }
     }
 }
@@ -38,18 +33,11 @@ fn count_children(parents: &[u16], counts: &mut [u16])
 // ---- rules 3 and 4
 
 // How many children a node with this taxon has in a sound tree.
-fn wanted(taxon: u32) -> u16
-    ensures { result ≡ wanted_count taxon }
+#[tactic(auto, unfolding(crate::specs::Counts::wanted_count, trees::specs::Lists::pick))]
+pub fn wanted(taxon: u32) -> u16
+    ensures { WantedMeets taxon result }
 {
     if taxon == 0 { 2 } else { 0 }
-}
-
-// 1 if a node with this taxon cannot have as many children, else 0.
-fn unlike(count: u16, taxon: u32) -> u16
-    ensures { (result ≡ one (not (eqb count (wanted_count taxon)))) × (result ≤ 1) }
-{
-    let k = wanted(taxon);
-    if count == k { 0 } else { 1 }
 }
 
 // Has every node no child and a taxon, or two children and none?
@@ -57,118 +45,80 @@ fn all_shaped(counts: &[u16], taxa: &[u32]) -> bool
     requires { (length taxa.now ≤ length counts.now) × (length taxa.now ≤ 2047) }
     ensures { T result → (k : ℕ) → k < length taxa.now → get_or counts.now k 0 ≡ wanted_count (get_or taxa.now k 0) }
 {
-    let n = taxa.len();
     let mut wrong: u16 = 0;
-    let mut i: usize = 0;
-    while i < n {
-        wrong += unlike(counts[i], taxa[i]);
-        i += 1;
+    for (i, &taxon) in taxa.iter().enumerate() {
+        wrong += u16::from(counts[i] != wanted(taxon));
     }
     wrong == 0
 }
 
-// Rule 3 at one node.
-fn paired_at(counts: &[u16], i: usize) -> bool
-    requires { i < length counts.now }
-    ensures { result ≡ paired_count counts.now i }
+// Rule 3 at a node with so many children.
+#[tactic(auto, unfolding(crate::specs::Counts::is_paired))]
+pub fn paired(count: usize) -> bool
+    ensures { PairedMeets count result }
 {
-    let k = counts[i];
-    k == 0 || k == 2
+    count == 0 || count == 2
 }
 
-// Rule 3: the lowest of n nodes that has neither no child nor two, or n.
-fn first_unpaired(counts: &[u16], n: usize) -> usize
-    requires { n ≤ length counts.now }
-    ensures { result ≡ lowest (paired_count counts.now) n }
+// Rule 3 at one node.
+#[tactic(auto, unfolding(crate::specs::Counts::paired_count))]
+fn paired_at(counts: &[u16], node: usize) -> bool
+    requires { node < length counts.now }
+    ensures { result ≡ paired_count counts.now node }
 {
-    let mut i: usize = 0;
-    while i < n {
-        if paired_at(counts, i) {
-            i += 1;
-        } else {
-            return i;
-        }
-    }
-    n
+    paired(usize::from(counts[node]))
+}
+
+// Rule 4 at a node with so many children and this taxon.
+#[tactic(auto, unfolding(crate::specs::Counts::is_marked, trees::specs::Lists::pick))]
+pub fn marked(count: usize, taxon: u32) -> bool
+    ensures { MarkedMeets count taxon result }
+{
+    if count == 0 { taxon != 0 } else { taxon == 0 }
 }
 
 // Rule 4 at one node.
-fn marked_at(counts: &[u16], taxa: &[u32], i: usize) -> bool
-    requires { (i < length counts.now) × (i < length taxa.now) }
-    ensures { result ≡ marked_count counts.now taxa.now i }
+#[tactic(auto, unfolding(crate::specs::Counts::marked_count))]
+fn marked_at(counts: &[u16], taxa: &[u32], node: usize) -> bool
+    requires { (node < length counts.now) × (node < length taxa.now) }
+    ensures { result ≡ marked_count counts.now taxa.now node }
 {
-    let t = taxa[i];
-    if counts[i] == 0 { t != 0 } else { t == 0 }
-}
-
-// Rule 4: the lowest node that is a leaf with taxon 0 or an inner node with another, or the number of nodes.
-fn first_unmarked(counts: &[u16], taxa: &[u32]) -> usize
-    requires { length taxa.now ≤ length counts.now }
-    ensures { result ≡ lowest (marked_count counts.now taxa.now) (length taxa.now) }
-{
-    let n = taxa.len();
-    let mut i: usize = 0;
-    while i < n {
-        if marked_at(counts, taxa, i) {
-            i += 1;
-        } else {
-            return i;
-        }
-    }
-    n
+    marked(usize::from(counts[node]), taxa[node])
 }
 
 // Rules 3 and 4 of a tree whose children are counted.
-fn judge_counts(tree: u16, parents: &[u16], taxa: &[u32], counts: &[u16]) -> Judged
-    requires { T (sized parents.now taxa.now) × ChildCounts parents.now counts.now }
-    ensures { judged_of result ≡ verdict (child_rules tree parents.now taxa.now) }
+fn judge_counts(tree: u16, tables: &Tree<'_>, counts: &[u16]) -> Result<(), Refusal>
+    requires { T (sized tables.now.parents.now tables.now.taxa.now) × ChildCounts tables.now.parents.now counts.now }
+    ensures { judged_of result ≡ verdict (child_rules tree tables.now.parents.now tables.now.taxa.now) }
 {
+    let taxa = tables.taxa;
     if all_shaped(counts, taxa) {
-        return Judged::Sound;
+        return Ok(());
     }
-    let n = parents.len();
-    let b = first_unpaired(counts, n);
-    if b < n {
-        return Judged::Refused(refuse(3, tree, b));
-    }
-    let d = first_unmarked(counts, taxa);
-    if d < n {
-        return Judged::Refused(refuse(4, tree, d));
-    }
-    Judged::Sound
+    let n = tables.parents.len();
+    judge_each(3, tree, n, |i| paired_at(counts, i))?;
+    judge_each(4, tree, n, |i| marked_at(counts, taxa, i))
 }
 
-// Rules 3 and 4 of a tree that is not large: 510 bytes of stack.
-fn judge_small(tree: u16, parents: &[u16], taxa: &[u32]) -> Judged
-    requires { T (sized parents.now taxa.now) × (length parents.now ≤ 255) }
-    ensures { judged_of result ≡ verdict (child_rules tree parents.now taxa.now) }
+// Rules 3 and 4 of a tree of at most N nodes: 2 N bytes of stack.
+fn judge_in<const N: usize>(tree: u16, tables: &Tree<'_>) -> Result<(), Refusal>
+    requires { T (sized tables.now.parents.now tables.now.taxa.now) × (length tables.now.parents.now ≤ N) × (N ≤ 2047) }
+    ensures { judged_of result ≡ verdict (child_rules tree tables.now.parents.now tables.now.taxa.now) }
 {
-    let mut counts = [0u16; 255];
-    count_children(parents, &mut counts);
-    judge_counts(tree, parents, taxa, &counts)
-}
-
-// Rules 3 and 4 of any tree: 4,094 bytes of stack.
-fn judge_large(tree: u16, parents: &[u16], taxa: &[u32]) -> Judged
-    requires { T (sized parents.now taxa.now) × (length parents.now ≤ 2047) }
-    ensures { judged_of result ≡ verdict (child_rules tree parents.now taxa.now) }
-{
-    let mut counts = [0u16; 2047];
-    count_children(parents, &mut counts);
-    judge_counts(tree, parents, taxa, &counts)
+    let mut counts = [0u16; N];
+    count_children(tables.parents, &mut counts);
+    judge_counts(tree, tables, &counts)
 }
 
 // Rules 2, 38, 3 and 4 of the tree with that number, on two tables that rule 1 has passed.
-pub fn judge_shape(tree: u16, parents: &[u16], taxa: &[u32]) -> Judged
-    requires { T (sized parents.now taxa.now) }
-    ensures { JudgeShapeMeets tree parents.now taxa.now result }
+pub fn judge_shape(tree: u16, tables: &Tree<'_>) -> Result<(), Refusal>
+    requires { T (sized tables.now.parents.now tables.now.taxa.now) }
+    ensures { JudgeShapeMeets tree tables.now.parents.now tables.now.taxa.now result }
 {
-    let rooted = orders::judge_roots(tree, parents);
-    let Judged::Sound = rooted else {
-        return rooted;
-    };
+    let parents = tables.parents;
+    orders::judge_roots(tree, parents)?;
     if parents.len() <= 255 {
-        return judge_small(tree, parents, taxa);
+        return judge_in::<255>(tree, tables);
     }
-    judge_large(tree, parents, taxa)
+    judge_in::<2047>(tree, tables)
 }

@@ -1,10 +1,10 @@
 -- Bytes put one after the other, and what is left to put. Assumes nothing.
-use Prim.Native.Nat.{ℕ, suc, ◌+◌, ◌-◌, ◌^◌, ◌≤◌, ◌<◌}
+use Prim.Native.Nat.{ℕ, zero, suc, ◌+◌, ◌-◌, ◌^◌, ◌≤◌, ◌<◌}
 use native.Mathlib.Omega.{arith}
 use native.Mathlib.Numerals.{add-one}
 use mathlib.Core.Path.{◌≡◌, refl, sym, ◌∙◌}
 use mathlib.Core.Bool.{true, false}
-use mathlib.Core.List.{List, [], ◌∷◌, ◌++◌, append_assoc}
+use mathlib.Core.List.{List, [], ◌∷◌, ◌++◌, map, append_assoc}
 use lib.ListN.{length, get_or, set, take, drop, replicate, length-replicate, drop_of_length-le}
 use lib.Seq.{sets-eq, drop-cons, take-append_seam}
 use borrow.Author.Tests.{lt-ltb, le-ltb}
@@ -18,7 +18,11 @@ use Rattle.printing.proofs.Putting.{ended_length}
 use Rattle.talks.specs.declared.Talk.{Talk}
 use Rattle.talks.specs.Promises.{HoldingMeets}
 use Rattle.showing.specs.Holding.{Held, held, put_byte_lem, put_bytes_lem}
-use Rattle.showing.specs.Lines.{spaced, spaced_from, entry_bytes, entries_from}
+use Rattle.std.specs.Prelude.{min}
+use Rattle.std.proofs.lemmas.List.{get_or-take, length-take-le}
+use Rattle.std.proofs.lemmas.Bool.Decides.{nat_tests}
+use Rattle.showing.specs.Lines.{spaced, word_bytes, up_to_five_lem, spaced_from, rest_bytes, all_spaced, line_bytes, entry_bytes, entries_from}
+use Rattle.showing.specs.declared.Line.{Line}
 use Rattle.showing.specs.Promises.{Shown, shown, unspoiled, PutTextMeets}
 
 pub put_append : (h : Held) (a b : List ℕ) → put_bytes_lem h (a ++ b) ≡ put_bytes_lem (put_bytes_lem h a) b
@@ -57,22 +61,42 @@ spaced_turn h h' ns i n b e =
     rw (k, put_append h (spaced (get_or ns i 0)) (spaced_from ns (i + 1) (n - (i + 1))), e)
 
 -- after one entry more of a table
-pub entry_turn : (h h' : Held) (l : List ℕ) (i : ℕ) → i < length l → h' ≡ put_bytes_lem h (entry_bytes i (get_or l i 0)) → put_bytes_lem h (entries_from i (drop i l)) ≡ put_bytes_lem h' (entries_from (i + 1) (drop (i + 1) l))
+pub entry_turn : {A : Type 0} (f : A → ℕ) (h h' : Held) (l : List A) (i : ℕ) (x : A) → i < length l → get_or l i x ≡ x → h' ≡ put_bytes_lem h (entry_bytes i (f x))
+    → put_bytes_lem h (entries_from i (map f (drop i l))) ≡ put_bytes_lem h' (entries_from (i + 1) (map f (drop (i + 1) l)))
 unfolding entries_from
-entry_turn h h' l i b e =
-    let d : drop i l ≡ get_or l i 0 ∷ drop (i + 1) l = rw (add-one i) (drop-cons l i 0 b) in
-    rw (d, put_append h (entry_bytes i (get_or l i 0)) (entries_from (i + 1) (drop (i + 1) l)), e)
-
-pub spaced_start : (h : Held) (ns : List ℕ) (n : ℕ) → put_bytes_lem h (spaced_from ns 0 n) ≡ put_bytes_lem h (spaced_from ns 0 (n - 0))
-spaced_start h ns n = let k : n - 0 ≡ n = omega arith in rw k
+entry_turn f h h' l i x b z e =
+    let d : map f (drop i l) ≡ f x ∷ map f (drop (i + 1) l) = rw (add-one i, drop-cons l i x b, z) in
+    rw (d, put_append h (entry_bytes i (f x)) (entries_from (i + 1) (map f (drop (i + 1) l))), e)
 
 pub spaced_end : (h : Held) (ns : List ℕ) (i n : ℕ) → n ≤ i → put_bytes_lem h (spaced_from ns i (n - i)) ≡ h
 unfolding put_bytes_lem spaced_from
 spaced_end h ns i n b = let k : n - i ≡ 0 = omega arith in rw k
 
-pub entries_end : (h : Held) (l : List ℕ) (i : ℕ) → length l ≤ i → put_bytes_lem h (entries_from i (drop i l)) ≡ h
+pub entries_end : {A : Type 0} (f : A → ℕ) (h : Held) (l : List A) (i : ℕ) → length l ≤ i → put_bytes_lem h (entries_from i (map f (drop i l))) ≡ h
 unfolding put_bytes_lem entries_from
-entries_end h l i b = rw (drop_of_length-le l b)
+entries_end f h l i b = rw (drop_of_length-le l b)
+
+-- ---- a line
+
+-- the first k numbers are those of the numbers
+spaced_take : (ns : List ℕ) (k i m : ℕ) → i + m ≤ k → spaced_from (take k ns) i m ≡ spaced_from ns i m
+unfolding spaced_from
+spaced_take ns k i zero h = refl
+spaced_take ns k i (suc m) h = rw (get_or-take k ns i 0 (omega arith), spaced_take ns k (i + 1) m (omega arith))
+
+five : (k : ℕ) → min k 5 ≡ up_to_five_lem k
+unfolding up_to_five_lem pick
+five k = grind (arith, nat_tests)
+
+-- the word, then the numbers
+pub whole_line : (h h' h'' : Held) (l : Line) → length l.numbers ≡ 5 → h' ≡ put_bytes_lem h (word_bytes l.refused) → h'' ≡ put_bytes_lem h' (all_spaced (take (min l.count 5) l.numbers))
+    → h'' ≡ put_bytes_lem h (line_bytes l)
+unfolding line_bytes rest_bytes
+whole_line h h' h'' l z e f =
+    let k = l.count in
+    let ns = l.numbers in
+    let n = min k 5 in
+    rw (f, e, length-take-le n ns (omega arith), spaced_take ns n 0 n (omega arith), five k) (sym (put_append h (word_bytes l.refused) (rest_bytes ns k)))
 
 -- ---- the digits of a number, taken from the buffer that they are put into
 

@@ -3,7 +3,7 @@
 --   Shown               == a talk and a memory
 --   shown m talk bytes  == the bytes are put, and the talk says how many are held
 --   unspoiled m talk bytes == the same; of a spoiled talk nothing is put
---   PutTextMeets, PutLineMeets, PutTableMeets <-> a text, a line, a table; PutTableMeets is the promise of put_words, put_longs, put_bytes
+--   PutTextMeets, PutLineMeets, PutTableMeets <-> a text, a line, a table; PutTableMeets is the promise of put_table, of the numbers that the entries are
 -- Assumes nothing.
 use Rattle.std.specs.Prelude.{ℕ, ◌≡◌, List}
 use Rattle.trees.specs.Lists.{pick}

@@ -2,9 +2,9 @@
 // written is not in a promise, since the kit's `write` promises nothing of it; what the memory holds is.
 #![tactic(auto)]
 
-ghost use Rattle.std.specs.Prelude.{◌≡◌, ◌≤◌};
+ghost use Rattle.std.specs.Prelude.{◌≡◌, ℕ, map};
 ghost use Rattle.showing.specs.Holding.{Held, held, put_byte_lem, put_bytes_lem};
-ghost use Rattle.showing.specs.Lines.{numeral, spaced, word_bytes, up_to_five_lem, rest_bytes, entry_bytes};
+ghost use Rattle.showing.specs.Lines.{numeral, spaced, word_bytes, all_spaced, entry_bytes};
 ghost use Rattle.showing.specs.Promises.{PutTextMeets, PutLineMeets, PutTableMeets};
 
 use talks::{Memory, Talk, holding};
@@ -13,6 +13,8 @@ use talks::{Memory, Talk, holding};
 const STDOUT_FILENO: i32 = 1;
 
 // The line `refused` or `ok`, and the first `count` of the numbers.
+// A flag beside three or five numbers, not an enum: put_line (PutLineMeets) promises something of every such line, and an enum would ask
+// more of callers.
 #[derive(Clone, Copy)]
 pub struct Line {
     pub refused: bool,
@@ -20,17 +22,10 @@ pub struct Line {
     pub numbers: [u64; 5],
 }
 
-fn write_up_to(memory: &[u8], end: usize) {
-    if end <= memory.len() {
-        if 65536 <= end {
-            io::write_all(STDOUT_FILENO, &memory[65536..end]);
-        }
-    }
-}
-
+// Writes the bytes that are held.
 fn write_held(memory: &Memory, used: usize) {
-    if used <= 4096 {
-        write_up_to(memory, 65536 + used);
+    if let Some(held) = memory[65536..].get(..used) {
+        io::write_all(STDOUT_FILENO, held);
     }
 }
 
@@ -56,10 +51,8 @@ fn text(memory: &mut Memory, used: usize, bytes: &[u8]) -> usize
     ensures { ◌≡◌ {A = Held} (held memory.new result) (put_bytes_lem (held memory.old used) bytes.now) }
 {
     let mut held = used;
-    let mut i: usize = 0;
-    while i < bytes.len() {
-        held = put(memory, held, bytes[i]);
-        i += 1;
+    for &byte in bytes {
+        held = put(memory, held, byte);
     }
     held
 }
@@ -68,7 +61,7 @@ fn decimal(memory: &mut Memory, used: usize, n: u64) -> usize
     ensures { ◌≡◌ {A = Held} (held memory.new result) (put_bytes_lem (held memory.old used) (numeral n)) }
 {
     let mut digits = [0u8; 21];
-    let k = printing::put_number(n, 32, 0, &mut digits) - 1;
+    let k = printing::put_number(n, b' ', 0, &mut digits) - 1;
     text(memory, used, &digits[..k])
 }
 
@@ -76,7 +69,7 @@ fn decimal(memory: &mut Memory, used: usize, n: u64) -> usize
 fn next(memory: &mut Memory, used: usize, n: u64) -> usize
     ensures { ◌≡◌ {A = Held} (held memory.new result) (put_bytes_lem (held memory.old used) (spaced n)) }
 {
-    let held = put(memory, used, 32);
+    let held = put(memory, used, b' ');
     decimal(memory, held, n)
 }
 
@@ -90,24 +83,15 @@ fn head(memory: &mut Memory, used: usize, refused: bool) -> usize
     text(memory, used, b"ok")
 }
 
-fn up_to_five(n: usize) -> usize
-    ensures { (result ≡ up_to_five_lem n) × (result ≤ 5) }
+// The numbers, and the line's end.
+fn rest(memory: &mut Memory, used: usize, numbers: &[u64]) -> usize
+    ensures { ◌≡◌ {A = Held} (held memory.new result) (put_bytes_lem (held memory.old used) (all_spaced numbers.now)) }
 {
-    if n < 5 { n } else { 5 }
-}
-
-// The first `count` numbers, and the line's end.
-fn rest(memory: &mut Memory, used: usize, numbers: &[u64; 5], count: usize) -> usize
-    ensures { ◌≡◌ {A = Held} (held memory.new result) (put_bytes_lem (held memory.old used) (rest_bytes numbers.now count)) }
-{
-    let n = up_to_five(count);
     let mut held = used;
-    let mut i: usize = 0;
-    while i < n {
-        held = next(memory, held, numbers[i]);
-        i += 1;
+    for &n in numbers {
+        held = next(memory, held, n);
     }
-    put(memory, held, 10)
+    put(memory, held, b'\n')
 }
 
 // A text, also where the talk is spoiled.
@@ -124,9 +108,8 @@ pub fn put_line(memory: &mut Memory, talk: Talk, shown: Line) -> Talk
     if !talk.more {
         return talk;
     }
-    let numbers = shown.numbers;
     let held = head(memory, talk.used, shown.refused);
-    let used = rest(memory, held, &numbers, shown.count);
+    let used = rest(memory, held, &shown.numbers[..shown.count.min(5)]);
     holding(talk, used)
 }
 
@@ -141,66 +124,48 @@ fn entry(memory: &mut Memory, used: usize, i: usize, n: u64) -> usize
     next(memory, used, n)
 }
 
-fn wide16(x: u16) -> u64
-    ensures { result ≡ x }
-{
-    x as u64
+// What a table holds: numbers of 8, 16 or 32 bits.
+pub trait Number: Copy {
+    ghost number: { Self → ℕ };
+
+    fn wide(self) -> u64
+        ensures { result ≡ number self };
 }
 
-fn wide8(x: u8) -> u64
-    ensures { result ≡ x }
-{
-    x as u64
+impl Number for u8 {
+    ghost number = { λ x. x };
+
+    fn wide(self) -> u64 {
+        u64::from(self)
+    }
 }
 
-fn wide32(x: u32) -> u64
-    ensures { result ≡ x }
-{
-    x as u64
+impl Number for u16 {
+    ghost number = { λ x. x };
+
+    fn wide(self) -> u64 {
+        u64::from(self)
+    }
+}
+
+impl Number for u32 {
+    ghost number = { λ x. x };
+
+    fn wide(self) -> u64 {
+        u64::from(self)
+    }
 }
 
 // A line with all entries of a table.
-pub fn put_words(memory: &mut Memory, talk: Talk, table: &[u16]) -> Talk
-    ensures { PutTableMeets memory.old talk table.now result memory.new }
+pub fn put_table<T: Number>(memory: &mut Memory, talk: Talk, table: &[T]) -> Talk
+    ensures { PutTableMeets memory.old talk (map T.number table.now) result memory.new }
 {
     if !talk.more {
         return talk;
     }
     let mut used = talk.used;
-    let mut i: usize = 0;
-    while i < table.len() {
-        used = entry(memory, used, i, wide16(table[i]));
-        i += 1;
+    for (i, x) in table.iter().enumerate() {
+        used = entry(memory, used, i, x.wide());
     }
-    holding(talk, put(memory, used, 10))
-}
-
-pub fn put_longs(memory: &mut Memory, talk: Talk, table: &[u32]) -> Talk
-    ensures { PutTableMeets memory.old talk table.now result memory.new }
-{
-    if !talk.more {
-        return talk;
-    }
-    let mut used = talk.used;
-    let mut i: usize = 0;
-    while i < table.len() {
-        used = entry(memory, used, i, wide32(table[i]));
-        i += 1;
-    }
-    holding(talk, put(memory, used, 10))
-}
-
-pub fn put_bytes(memory: &mut Memory, talk: Talk, table: &[u8]) -> Talk
-    ensures { PutTableMeets memory.old talk table.now result memory.new }
-{
-    if !talk.more {
-        return talk;
-    }
-    let mut used = talk.used;
-    let mut i: usize = 0;
-    while i < table.len() {
-        used = entry(memory, used, i, wide8(table[i]));
-        i += 1;
-    }
-    holding(talk, put(memory, used, 10))
+    holding(talk, put(memory, used, b'\n'))
 }

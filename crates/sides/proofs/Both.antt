@@ -1,13 +1,13 @@
 -- Rules 10 and 11, one after the other. Assumes nothing.
+use Rattle.std.specs.Prelude.{Ok, Err}
 use Prim.Native.Nat.{ℕ}
 use mathlib.Core.Path.{◌≡◌, sym, ap, ◌∙◌}
 use mathlib.Core.List.{List, [], ◌∷◌}
 use lib.ListN.{length}
-use Rattle.trees.specs.Rulings.{accepted, Rule, each, verdict, fine}
+use Rattle.trees.specs.Rulings.{accepted, refused_by, Rule, each, verdict, fine}
 use Rattle.trees.specs.Answers.{judged_of}
 use Rattle.trees.specs.declared.Refusal.{Refusal}
-use Rattle.trees.specs.declared.Judged.{Judged}
-use Rattle.trees.specs.declared.Judged.TheVariants.{Sound, Refused}
+use Rattle.trees.specs.Answers.{Judged}
 use Rattle.trees.proofs.Rulings.{every_head, ruling_pass, ruling_stays, ruling_accepted, one_same}
 use Rattle.sides.specs.Tests.{nested_by, parted_by}
 use Rattle.sides.specs.Promises.{Nestable}
@@ -22,12 +22,11 @@ module _ {sp gp pl lb : List ℕ} (N : Nestable sp gp pl lb) where
   rule11 = each 11 2 (length gp) (parted_by sp gp pl lb)
 
   -- refused by rule 10
-  pub stopped_10 : (r : Judged) (f : Refusal) → judged_of r ≡ verdict (rule10 ∷ []) → r ≡ Refused f → judged_of r ≡ verdict (rule10 ∷ rule11 ∷ [])
-  stopped_10 r f e z =
-      ap judged_of z ∙ sym (ruling_stays (rule10 ∷ []) (rule11 ∷ []) fine fine f.number f.tree f.place (sym e ∙ ap judged_of z))
+  pub stopped_10 : (f : Refusal) → refused_by f ≡ verdict (rule10 ∷ []) → refused_by f ≡ verdict (rule10 ∷ rule11 ∷ [])
+  stopped_10 f e = sym (ruling_stays (rule10 ∷ []) (rule11 ∷ []) fine fine f.number f.tree f.place (sym e))
 
   -- passed by rule 10: rule 11 by what is known of the children is what is left
-  pub passed_10 : (r : Judged) (sides : List ℕ) → Nested sp gp pl sides r → r ≡ Sound
+  pub passed_10 : (r : Judged) (sides : List ℕ) → Nested sp gp pl sides r → r ≡ (Ok tt)
       → verdict (each 11 2 (length gp) (parted_in lb sides) ∷ []) ≡ verdict (rule10 ∷ rule11 ∷ [])
   passed_10 r sides D z =
       let a : judged_of r ≡ accepted fine = ap judged_of z in

@@ -1,4 +1,5 @@
 -- The steps of the searches, each as one law over plain tables. Assumes nothing.
+use Rattle.std.specs.Prelude.{Ok, Err, Some, None, Option}
 use Prim.Native.Nat.{ℕ, ◌+◌, ◌≤◌, ◌<◌}
 use native.Mathlib.Omega.{arith}
 use mathlib.Core.Path.{◌≡◌, sym, ap, ◌∙◌}
@@ -13,9 +14,7 @@ use Rattle.trees.specs.Trees.{none}
 use Rattle.trees.proofs.Bools.{true_T}
 use Rattle.trees.specs.Rulings.{refused_by}
 use Rattle.trees.specs.declared.Refusal.{Refusal}
-use Rattle.trees.specs.declared.Judged.TheVariants.{Sound, Refused}
-use Rattle.trees.specs.declared.SpeciesSpot.{SpeciesSpot}
-use Rattle.trees.specs.declared.SpeciesSpot.TheVariants.{At, Nowhere}
+use Rattle.trees.specs.declared.SpeciesNode.{SpeciesNode}
 use Rattle.trees.proofs.Rulings.{one_refused, one_passed, refused_not}
 use Rattle.sides.specs.Tests.{side_of, nested_by}
 use Rattle.sides.specs.Visits.{merged, SideBy, has_side, side_entry, SmallSide, Seen, Visiting, Visited, Nesting, Nested}
@@ -25,18 +24,18 @@ use Rattle.sides.proofs.Climbing.{seen_start, seen_turn, seen_root}
 
 -- a side that was looked for, as it stands in the table
 module _ (sp : List ℕ) (a x : ℕ) where
-  entry_is : (r : SpeciesSpot) → SideBy sp a x r → side_entry r ≡ side_of sp a x
-  entry_is (At s) e = e.1
-  entry_is Nowhere e = e
+  entry_is : (r : Option SpeciesNode) → SideBy sp a x r → side_entry r ≡ side_of sp a x
+  entry_is (Some s) e = e.1
+  entry_is None e = e
 
   module _ (few : length sp ≤ 2047) where
-    found_is : (r : SpeciesSpot) → SideBy sp a x r → has_side r ≡ not (eqb (side_of sp a x) none)
-    found_is (At s) e = rw (ne_eqb (side_of sp a x) none (omega (arith, e.0, e.1)))
-    found_is Nowhere e = rw (eq-eqb (side_of sp a x) none (sym e))
+    found_is : (r : Option SpeciesNode) → SideBy sp a x r → has_side r ≡ not (eqb (side_of sp a x) none)
+    found_is (Some s) e = rw (ne_eqb (side_of sp a x) none (omega (arith, e.0, e.1)))
+    found_is None e = rw (eq-eqb (side_of sp a x) none (sym e))
 
-    small_is : (r : SpeciesSpot) → SideBy sp a x r → SmallSide r
-    small_is (At s) e = λ t. omega (arith, e.0)
-    small_is Nowhere e = λ t. absurd t
+    small_is : (r : Option SpeciesNode) → SideBy sp a x r → SmallSide r
+    small_is (Some s) e = λ t. omega (arith, e.0)
+    small_is None e = λ t. absurd t
 
 module _ {sp gp pl sides : List ℕ} {c : ℕ} (X : Visiting sp gp pl c sides) where
   pub visit_root : length gp ≤ get_or gp c 0 → Visited sp gp pl c sides true
@@ -44,7 +43,7 @@ module _ {sp gp pl sides : List ℕ} {c : ℕ} (X : Visiting sp gp pl c sides) w
   visit_root b =
       record { test = rw (le-ltb (get_or gp c 0) (length gp) b); seen = λ t. seen_root sp gp pl c sides X.inside b X.seen }
 
-  module _ (b : get_or gp c 0 < length gp) (r : SpeciesSpot) (e : SideBy sp (get_or pl (get_or gp c 0) 0) (get_or pl c 0) r) where
+  module _ (b : get_or gp c 0 < length gp) (r : Option SpeciesNode) (e : SideBy sp (get_or pl (get_or gp c 0) 0) (get_or pl c 0) r) where
     abbrev side : ℕ
     side = side_of sp (get_or pl (get_or gp c 0) 0) (get_or pl c 0)
 
@@ -87,14 +86,14 @@ module _ {sp gp pl sides₀ : List ℕ} (N : Nesting sp gp pl sides₀) where
         record { inside = omega arith; nested = below_more _ _ P.nested (true_T (sym X.test ∙ e)); seen = X.seen (true_T e) }
 
     pub nested_found : (r : Bool) (sides' : List ℕ) (f : Refusal) → c < length gp → Visited sp gp pl c sides' r → r ≡ false
-        → f ≡ record { number = 10; tree = 2; place = c } → Nested sp gp pl sides' (Refused f)
+        → f ≡ record { number = 10; tree = 2; place = c } → Nested sp gp pl sides' (Err f)
     nested_found r sides' f h X e z =
         record {
           judged = ap refused_by z ∙ sym (one_refused 10 2 (length gp) (nested_by sp gp pl) c h (sym X.test ∙ e) P.nested);
           seen = λ b. refused_not (sym b);
         }
 
-    pub nested_end : length gp ≤ c → Nested sp gp pl sides Sound
+    pub nested_end : length gp ≤ c → Nested sp gp pl sides (Ok tt)
     nested_end b =
         let z : c ≡ length gp = omega (arith, P.inside) in
         record { judged = sym (one_passed 10 2 (length gp) (nested_by sp gp pl) (λ j l. P.nested j (omega arith))); seen = λ x. rw z at P.seen }

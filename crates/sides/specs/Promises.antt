@@ -7,7 +7,7 @@ use Rattle.trees.specs.Trees.{Inner}
 use Rattle.trees.specs.Sound.{Treelike}
 use Rattle.trees.specs.Rulings.{each, verdict}
 use Rattle.trees.specs.Answers.{judged_of}
-use Rattle.trees.specs.declared.Judged.{Judged}
+use Rattle.trees.specs.Answers.{Judged}
 use Rattle.sides.specs.Tests.{nested_by, parted_by}
 
 pub record Nestable (sp gp pl lb : List ℕ) : Type 0 where

@@ -12,30 +12,29 @@
 --   Nesting, Nested    <-> what the search of rule 10 needs and leaves
 --   parted_in lb sides g, Parted .. r <-> rule 11 by what is known of the children; what its search finds
 -- Assumes nothing.
-use Rattle.std.specs.Prelude.{ℕ, ◌+◌, ◌≤◌, ◌<◌, ◌≡◌, Bool, true, false, ◌||◌, not, List, [], ◌∷◌, length, get_or, replicate, T, eqb}
+use Rattle.std.specs.Prelude.{ℕ, ◌+◌, ◌≤◌, ◌<◌, ◌≡◌, Bool, true, false, ◌||◌, not, List, [], ◌∷◌, length, get_or, replicate, T, eqb, Some, None, Option}
 use Rattle.trees.specs.Lists.{range, keep_if, pick}
 use Rattle.trees.specs.Trees.{none, up}
 use Rattle.trees.specs.Sound.{Treelike}
 use Rattle.trees.specs.Rulings.{accepted, each, verdict, fine}
 use Rattle.trees.specs.Answers.{judged_of}
-use Rattle.trees.specs.declared.Judged.{Judged}
-use Rattle.trees.specs.declared.SpeciesSpot.{SpeciesSpot}
-use Rattle.trees.specs.declared.SpeciesSpot.TheVariants.{At, Nowhere}
+use Rattle.trees.specs.Answers.{Judged}
+use Rattle.trees.specs.declared.SpeciesNode.{SpeciesNode}
 use Rattle.sides.specs.Tests.{side_of, nested_by}
 
-abbrev pub SideBy : List ℕ → ℕ → ℕ → SpeciesSpot → Type 0
-SideBy sp a x (At s) = (s.0 < length sp) × (s.0 ≡ side_of sp a x)
-SideBy sp a x Nowhere = none ≡ side_of sp a x
+abbrev pub SideBy : List ℕ → ℕ → ℕ → Option SpeciesNode → Type 0
+SideBy sp a x (Some s) = (s.0 < length sp) × (s.0 ≡ side_of sp a x)
+SideBy sp a x None = none ≡ side_of sp a x
 
-abbrev pub has_side : SpeciesSpot → Bool
-has_side (At s) = true
-has_side Nowhere = false
+abbrev pub has_side : Option SpeciesNode → Bool
+has_side (Some s) = true
+has_side None = false
 
-abbrev pub side_entry : SpeciesSpot → ℕ
-side_entry (At s) = s.0
-side_entry Nowhere = none
+abbrev pub side_entry : Option SpeciesNode → ℕ
+side_entry (Some s) = s.0
+side_entry None = none
 
-abbrev pub SmallSide : SpeciesSpot → Type 0
+abbrev pub SmallSide : Option SpeciesNode → Type 0
 SmallSide r = T (has_side r) → side_entry r < 65534
 
 abbrev pub unseen : ℕ

@@ -7,10 +7,10 @@ ghost use Rattle.trees.specs.Sound.{Treelike};
 ghost use Rattle.sides.specs.Promises.{Nestable, JudgeSidesMeets};
 ghost use Rattle.sides.specs.Visits.{SideBy, has_side, side_entry, SmallSide, merged, Visiting, Visited, Nesting, Nested, parted_in, Parted};
 
-use trees::{GeneNode, Judged, SpeciesNode, SpeciesSpot, refuse};
+use trees::{GeneNode, Refusal, SpeciesNode, judge_each, refuse};
 
 // The child of species node `above` that the place is at or below; nowhere if the place is not properly below it.
-fn side_of(species_parents: &[u16], above: SpeciesNode, place: SpeciesNode) -> SpeciesSpot
+fn side_of(species_parents: &[u16], above: SpeciesNode, place: SpeciesNode) -> Option<SpeciesNode>
     requires { Treelike species_parents.now × (above.0 < length species_parents.now) × (place.0 < length species_parents.now) }
     ensures { SideBy species_parents.now above.0 place.0 result }
 {
@@ -18,42 +18,34 @@ fn side_of(species_parents: &[u16], above: SpeciesNode, place: SpeciesNode) -> S
     let a = above.0;
     let mut s = place.0;
     if s == a {
-        return SpeciesSpot::Nowhere;
+        return None;
     }
     loop {
         let u = species_parents[s] as usize;
         if u == a {
-            return SpeciesSpot::At(SpeciesNode(s));
+            return Some(SpeciesNode(s));
         }
         if n <= u {
-            return SpeciesSpot::Nowhere;
+            return None;
         }
         s = u;
     }
 }
 
 // Is a place at or below another, of which it lies on this side?
-fn within(place: SpeciesNode, above: SpeciesNode, side: SpeciesSpot) -> bool
+fn within(place: SpeciesNode, above: SpeciesNode, side: Option<SpeciesNode>) -> bool
     ensures { result ≡ (eqb place.0 above.0 || has_side side) }
 {
-    let x = place.0;
-    let a = above.0;
-    if x == a {
-        return true;
-    }
-    let SpeciesSpot::At(_) = side else {
-        return false;
-    };
-    true
+    place == above || side.is_some()
 }
 
 // What is known of a gene node's children once one more has been looked at, which lies on this side.
 #[tactic(auto, unfolding(crate::specs::Visits::merged, trees::specs::Lists::pick))]
-fn merge(seen: u16, side: SpeciesSpot) -> u16
+fn merge(seen: u16, side: Option<SpeciesNode>) -> u16
     requires { SmallSide side }
     ensures { result ≡ merged seen (side_entry side) }
 {
-    let SpeciesSpot::At(node) = side else {
+    let Some(node) = side else {
         return 65535;
     };
     let s = node.0 as u16;
@@ -99,65 +91,50 @@ fn judge_nested(
     gene_parents: &[u16],
     places: &[u16],
     sides: &mut [u16],
-) -> Judged
+) -> Result<(), Refusal>
     requires { Nesting species_parents.now gene_parents.now places.now sides.old }
     ensures { Nested species_parents.now gene_parents.now places.now sides.new result }
 {
-    let q = gene_parents.len();
-    let mut c: usize = 0;
-    while c < q {
-        if visit(species_parents, gene_parents, places, sides, GeneNode(c)) {
-            c += 1;
-        } else {
-            return Judged::Refused(refuse(10, 2, c));
+    for c in 0..gene_parents.len() {
+        if !visit(species_parents, gene_parents, places, sides, GeneNode(c)) {
+            return Err(refuse(10, 2, c));
         }
     }
-    Judged::Sound
+    Ok(())
 }
 
 // Rule 11 at one gene node.
+#[tactic(auto, unfolding(crate::specs::Visits::parted_in, trees::specs::Lists::pick))]
 fn parted_at(labels: &[u16], sides: &[u16], node: GeneNode) -> bool
     requires { (node.0 < length labels.now) × (node.0 < length sides.now) }
     ensures { result ≡ parted_in labels.now sides.now node.0 }
 {
     let g = node.0;
-    if labels[g] != 1 {
-        return true;
-    }
-    sides[g] != 65535
+    labels[g] != 1 || sides[g] != 65535
 }
 
 // Rule 11: refused at the lowest of q gene nodes that is a speciation without one child on either side.
-fn judge_parted(labels: &[u16], sides: &[u16], q: usize) -> Judged
+fn judge_parted(labels: &[u16], sides: &[u16], q: usize) -> Result<(), Refusal>
     requires { (q ≤ length labels.now) × (q ≤ length sides.now) }
     ensures { Parted labels.now sides.now q result }
 {
-    let mut g: usize = 0;
-    while g < q {
-        if parted_at(labels, sides, GeneNode(g)) {
-            g += 1;
-        } else {
-            return Judged::Refused(refuse(11, 2, g));
-        }
-    }
-    Judged::Sound
+    judge_each(11, 2, q, |g| parted_at(labels, sides, GeneNode(g)))
 }
 
 // Rules 10 and 11, where rule 8 holds: refused at the lowest gene node that is not at or below its parent's place, else at the lowest
-// speciation without one child on either side. 4,094 bytes of stack.
+// speciation without one child on either side. 4,094 bytes of stack, which are not on it while a quick test runs: so it is kept a function of
+// its own in the machine code.
+#[inline(never)]
 pub fn judge_sides(
     species_parents: &[u16],
     gene_parents: &[u16],
     places: &[u16],
     labels: &[u16],
-) -> Judged
+) -> Result<(), Refusal>
     requires { Nestable species_parents.now gene_parents.now places.now labels.now }
     ensures { JudgeSidesMeets species_parents.now gene_parents.now places.now labels.now result }
 {
     let mut sides = [65534u16; 2047];
-    let nested = judge_nested(species_parents, gene_parents, places, &mut sides);
-    let Judged::Sound = nested else {
-        return nested;
-    };
+    judge_nested(species_parents, gene_parents, places, &mut sides)?;
     judge_parted(labels, &sides, gene_parents.len())
 }

@@ -35,10 +35,8 @@ pub fn spoil(talk: Talk) -> Talk
     ensures { SpoilMeets talk result }
 {
     Talk {
-        at: talk.at,
-        end: talk.end,
-        used: talk.used,
         more: false,
+        ..talk
     }
 }
 
@@ -46,10 +44,5 @@ pub fn spoil(talk: Talk) -> Talk
 pub fn holding(talk: Talk, used: usize) -> Talk
     ensures { HoldingMeets talk used result }
 {
-    Talk {
-        at: talk.at,
-        end: talk.end,
-        used,
-        more: talk.more,
-    }
+    Talk { used, ..talk }
 }

@@ -2,54 +2,49 @@
 -- these only `Alone` and `AllKnown` are asked of a caller, and nothing is part of a promise.
 --   slot_of_lem t                == the chain of a taxon
 --   Last tax s b p               <-> p points to the highest node below b in chain s, if any: all between it and b are in other chains
---   Linked tax earlier           <-> each node with a taxon has a pointer to the highest one before it in its chain
 --   FoundBy tax t r              <-> r is a node that carries the taxon t; none does if r is nowhere
---   Chained tax i heads earlier  <-> the nodes below i are in their chains: the heads point to the highest of each
+--   Chained tax i c              <-> the nodes below i are in the chains c: the heads point to the highest of each, and each node to the
+--                                    highest one before it in its chain
 --   Entered, Indexed             <-> what entering one node, and all nodes, leaves
 --   Alone tax                    <-> no node's taxon stands at a lower node
 --   AllKnown st gt               <-> rule 6 at every gene node
 -- Assumes nothing.
-use Rattle.std.specs.Prelude.{ℕ, ◌+◌, ◌-◌, ◌*◌, ◌/◌, ◌%◌, ◌≤◌, ◌<◌, ◌≡◌, ◌≢◌, Bool, List, length, get_or, T}
+use Rattle.std.specs.Prelude.{ℕ, ◌+◌, ◌-◌, ◌≤◌, ◌<◌, ◌≡◌, ◌≢◌, Bool, List, length, get_or, T, Some, None, Option}
 use Rattle.trees.specs.Rulings.{accepted, fine}
 use Rattle.trees.specs.Answers.{judged_of}
-use Rattle.trees.specs.declared.Judged.{Judged}
-use Rattle.trees.specs.declared.SpeciesSpot.{SpeciesSpot}
-use Rattle.trees.specs.declared.SpeciesSpot.TheVariants.{At, Nowhere}
+use Rattle.trees.specs.Answers.{Judged}
+use Rattle.trees.specs.declared.SpeciesNode.{SpeciesNode}
+use Rattle.trees.specs.Slots.{slot_in}
 use Rattle.trees.specs.Tables.{taxon}
+use Rattle.taxa.specs.declared.ByTaxon.{ByTaxon}
 use Rattle.taxa.specs.Searches.{fresh_taxon, known_taxon}
 use Rattle.taxa.specs.Promises.{JudgeRepeatsMeets}
 
-unfoldable pub slot_of_lem : ℕ → ℕ
-slot_of_lem t = t * 2654435761 % 4294967296 / 2097152
+abbrev pub slot_of_lem : ℕ → ℕ
+slot_of_lem t = slot_in t 2048
 
 pub record Last (tax : List ℕ) (s b p : ℕ) : Type 0 where
   pub low : p ≤ b
   pub own : 1 ≤ p → (taxon tax (p - 1) ≢ 0) × (slot_of_lem (taxon tax (p - 1)) ≡ s)
   pub past : (k : ℕ) → p ≤ k → k < b → taxon tax k ≢ 0 → slot_of_lem (taxon tax k) ≢ s
 
-pub record Linked (tax earlier : List ℕ) : Type 0 where
-  pub few : length tax ≤ 2047
-  pub room : length tax ≤ length earlier
-  pub link : (j : ℕ) → j < length tax → taxon tax j ≢ 0 → Last tax (slot_of_lem (taxon tax j)) j (get_or earlier j 0)
+abbrev pub FoundBy : List ℕ → ℕ → Option SpeciesNode → Type 0
+FoundBy tax t (Some s) = (s.0 < length tax) × (taxon tax s.0 ≡ t)
+FoundBy tax t None = (k : ℕ) → k < length tax → taxon tax k ≢ t
 
-abbrev pub FoundBy : List ℕ → ℕ → SpeciesSpot → Type 0
-FoundBy tax t (At s) = (s.0 < length tax) × (taxon tax s.0 ≡ t)
-FoundBy tax t Nowhere = (k : ℕ) → k < length tax → taxon tax k ≢ t
+pub record Chained {n : ℕ} (tax : List ℕ) (i : ℕ) (c : ByTaxon n) : Type 0 where
+  pub few : n ≤ 2047
+  pub room : length tax ≤ n
+  pub head : (s : ℕ) → s < 2048 → Last tax s i (get_or c.heads s 0)
+  pub link : (j : ℕ) → j < i → taxon tax j ≢ 0 → Last tax (slot_of_lem (taxon tax j)) j (get_or c.earlier j 0)
 
-pub record Chained (tax : List ℕ) (i : ℕ) (heads earlier : List ℕ) : Type 0 where
-  pub few : length tax ≤ 2047
-  pub slots : length heads ≡ 2048
-  pub room : length tax ≤ length earlier
-  pub head : (s : ℕ) → s < 2048 → Last tax s i (get_or heads s 0)
-  pub link : (j : ℕ) → j < i → taxon tax j ≢ 0 → Last tax (slot_of_lem (taxon tax j)) j (get_or earlier j 0)
-
-pub record Entered (tax : List ℕ) (i : ℕ) (heads earlier : List ℕ) (r : Bool) : Type 0 where
+pub record Entered {n : ℕ} (tax : List ℕ) (i : ℕ) (c : ByTaxon n) (r : Bool) : Type 0 where
   pub test : r ≡ fresh_taxon tax i
-  pub chained : T r → Chained tax (i + 1) heads earlier
+  pub chained : T r → Chained tax (i + 1) c
 
-pub record Indexed (tax heads earlier : List ℕ) (r : Judged) : Type 0 where
+pub record Indexed {n : ℕ} (tax : List ℕ) (c : ByTaxon n) (r : Judged) : Type 0 where
   pub found : JudgeRepeatsMeets tax r
-  pub chained : judged_of r ≡ accepted fine → Chained tax (length tax) heads earlier
+  pub chained : judged_of r ≡ accepted fine → Chained tax (length tax) c
 
 pub record Alone (tax : List ℕ) : Type 0 where
   pub few : length tax ≤ 2047

@@ -1,4 +1,5 @@
 -- What the answers of the reader and of the least history mean for what is printed. Assumes nothing.
+use Rattle.std.specs.Prelude.{Err, Ok}
 use Prim.Native.Nat.{ℕ, ◌≤◌, ◌<◌}
 use native.Mathlib.Omega.{arith}
 use mathlib.Core.Path.{◌≡◌, refl, sym, ap, ◌∙◌}
@@ -27,15 +28,11 @@ use Rattle.least.specs.Answers.{counts_of, least_of}
 use Rattle.histories.specs.Outcomes.{least_outcome}
 use Rattle.histories.specs.Outcomes as outcomes
 use Rattle.least.specs.declared.LeastCounts.{LeastCounts}
-use Rattle.least.specs.declared.LeastAnswer.{LeastAnswer}
-use Rattle.least.specs.declared.LeastAnswer.TheVariants.{Done, Refused}
+use Rattle.least.specs.Answers.{LeastAnswer}
 use Rattle.io.specs.Counts.{IsPrefixLen}
 use Rattle.numbers.specs.Words.{words}
 use Rattle.reading.specs.Reading.{species_count, gene_count, widths, fits, tables, count_rules, text_rules, text_ruling}
 use Rattle.reading.specs.Readers.{SizesRead, SizesBy, TablesRead, Ready}
-use Rattle.reading.specs.declared.Sizes.{Sizes}
-use Rattle.reading.specs.declared.Sizes.TheVariants.{Refused as Sizes-as-Refused}
-use Rattle.reading.proofs.Counted.{sizes_refusal}
 use Rattle.printing.specs.Printing.{history_lines, counts_line, refused_line, report, answered, printed}
 use Rattle.printing.specs.Putting.{told_lines, Outcome, outcome}
 
@@ -89,11 +86,11 @@ module _ (w : Pair) where
     unfolding least_outcome
     answer_is = ap (λ o. o.answer) e ∙ roomy_ruling zeros zeros 1 1 (rw zeros_size few) (rw zeros_size few)
 
-    pub answered_refused : (f : Refusal) → r ≡ Refused f → answered w ≡ refused_line f.number f.tree f.place
+    pub answered_refused : (f : Refusal) → r ≡ Err f → answered w ≡ refused_line f.number f.tree f.place
     unfolding answered report
     answered_refused f q = rw (← answer_is, q)
 
-    pub answered_done : (c : LeastCounts) → r ≡ Done c
+    pub answered_done : (c : LeastCounts) → r ≡ Ok c
         → answered w ≡ told_lines (take (length w.gp) places) (take (length w.gp) labels) ++ counts_line (counts_of c)
     unfolding answered report least_outcome
     answered_done c q =
@@ -106,10 +103,9 @@ module _ (w : Pair) where
 
 -- ---- a text whose counts are refused, and one whose counts are read
 
-pub counts_refused : (text : List ℕ) (r : Sizes) (f : Refusal) → r ≡ Sizes-as-Refused f → SizesBy r text → printed text ≡ refused_line f.number f.tree f.place
+pub counts_refused : (text : List ℕ) (f : Refusal) → SizesBy (Err f) text → printed text ≡ refused_line f.number f.tree f.place
 unfolding printed report text_ruling text_rules
-counts_refused text r f q e =
-    rw (ruling_stays (count_rules text) _ fine (least_counts (tables text) 1 1) f.number f.tree f.place (sizes_refusal text r f q e))
+counts_refused text f e = rw (ruling_stays (count_rules text) _ fine (least_counts (tables text) 1 1) f.number f.tree f.place e)
 
 -- with its tables after they are read
 

@@ -6,63 +6,46 @@
 
 ghost use Rattle.std.specs.Prelude.{◌≡◌, ◌≤◌, length};
 ghost use Rattle.io.specs.Counts.{IsPrefixLen};
-ghost use Rattle.trees.specs.Tables.{pair};
+ghost use Rattle.trees.specs.Tables.{pair, pair_of};
 ghost use Rattle.reading.specs.Readers.{SizesRead, Ready};
 ghost use Rattle.printing.specs.Printing.{answered};
 ghost use Rattle.printing.specs.Putting.{Outcome, outcome};
 ghost use Rattle.text.specs.Promises.{HistoryTextMeets};
 
-use least::LeastAnswer;
 use printing::{write_history, write_refusal};
 use reading::{Sizes, read_counts, read_tables};
-use trees::Refusal;
+use trees::{Tree, Trees, refuse};
 
 // The least history of four tables, printed. Its places and labels stand on the stack, 8,188 bytes, since a program has no
 // other memory.
-fn answer_tables(
-    species_parents: &[u16],
-    species_taxa: &[u32],
-    gene_parents: &[u16],
-    gene_taxa: &[u32],
-    out: &mut [u8],
-) -> usize
-    requires { length gene_parents.now ≤ 2047 }
-    ensures { ◌≡◌ {A = Outcome} (record { written = result; out = out.new }) (outcome (answered (pair species_parents.now species_taxa.now gene_parents.now gene_taxa.now)) out.old) }
+fn answer_tables(trees: &Trees<'_>, out: &mut [u8]) -> usize
+    requires { length trees.now.genes.parents.now ≤ 2047 }
+    ensures { ◌≡◌ {A = Outcome} (record { written = result; out = out.new }) (outcome (answered (pair_of trees.now)) out.old) }
 {
-    let q = gene_parents.len();
+    let q = trees.genes.parents.len();
     let mut places = [0u16; 2047];
     let mut labels = [0u16; 2047];
-    let answer = least::least_history(
-        species_parents,
-        species_taxa,
-        gene_parents,
-        gene_taxa,
-        &mut places,
-        &mut labels,
-        1,
-        1,
-    );
-    match answer {
-        LeastAnswer::Refused(refusal) => write_refusal(refusal, out),
-        LeastAnswer::Done(counts) => write_history(&places[..q], &labels[..q], counts, out),
+    match least::least_history(trees, &mut places, &mut labels, 1, 1) {
+        Ok(counts) => write_history(&places[..q], &labels[..q], counts, out),
+        Err(refusal) => write_refusal(refusal, out),
     }
 }
 
 // The rest of a text, behind its counts, printed. It is read into four tables of the right sizes, which are left with any
 // entries.
-fn answer_rest(
+fn answer_rest<'a>(
     text: &[u8],
     next: usize,
-    species_parents: &mut [u16],
-    species_taxa: &mut [u32],
-    gene_parents: &mut [u16],
-    gene_taxa: &mut [u32],
+    species_parents: &'a mut [u16],
+    species_taxa: &'a mut [u32],
+    gene_parents: &'a mut [u16],
+    gene_taxa: &'a mut [u32],
     out: &mut [u8],
 ) -> usize
     requires { Ready text.now next (pair species_parents.old species_taxa.old gene_parents.old gene_taxa.old) }
     ensures { HistoryTextMeets text.now out.old result out.new }
 {
-    if read_tables(
+    if !read_tables(
         text,
         next,
         species_parents,
@@ -70,29 +53,38 @@ fn answer_rest(
         gene_parents,
         gene_taxa,
     ) {
-        answer_tables(species_parents, species_taxa, gene_parents, gene_taxa, out)
-    } else {
-        let refusal = Refusal {
-            number: 20,
-            tree: 0,
-            place: 0,
-        };
-        write_refusal(refusal, out)
+        return write_refusal(refuse(20, 0, 0), out);
     }
+    answer_tables(
+        &Trees {
+            species: Tree {
+                parents: species_parents,
+                taxa: species_taxa,
+            },
+            genes: Tree {
+                parents: gene_parents,
+                taxa: gene_taxa,
+            },
+        },
+        out,
+    )
 }
 
-// A text with its counts p and q read, printed. The four tables stand on the stack, 24,564 bytes, for the same reason.
-fn answer_sized(text: &[u8], p: usize, q: usize, next: usize, out: &mut [u8]) -> usize
-    requires { SizesRead text.now p q next }
+// A text with its counts read, printed. The four tables stand on the stack, 24,564 bytes, for the same reason.
+#[tactic(auto, using(crate::proofs::Answered::zeros_length))]
+fn answer_sized(text: &[u8], sizes: Sizes, out: &mut [u8]) -> usize
+    requires { SizesRead text.now sizes.species sizes.genes sizes.next }
     ensures { HistoryTextMeets text.now out.old result out.new }
 {
+    let p = sizes.species;
+    let q = sizes.genes;
     let mut species_parents = [0u16; 2047];
     let mut species_taxa = [0u32; 2047];
     let mut gene_parents = [0u16; 2047];
     let mut gene_taxa = [0u32; 2047];
     answer_rest(
         text,
-        next,
+        sizes.next,
         &mut species_parents[..p],
         &mut species_taxa[..p],
         &mut gene_parents[..q],
@@ -108,13 +100,8 @@ pub fn history_text(text: &[u8], out: &mut [u8]) -> usize
     ensures history_text_meets { HistoryTextMeets text.now out.old result out.new }
     ensures prefix_len { IsPrefixLen result out.new }
 {
-    let sizes = read_counts(text);
-    match sizes {
-        Sizes::Refused(refusal) => write_refusal(refusal, out),
-        Sizes::Both {
-            species,
-            genes,
-            next,
-        } => answer_sized(text, species, genes, next, out),
+    match read_counts(text) {
+        Ok(sizes) => answer_sized(text, sizes, out),
+        Err(refusal) => write_refusal(refusal, out),
     }
 }

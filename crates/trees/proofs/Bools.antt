@@ -3,7 +3,7 @@ use Prim.Native.Nat.{ℕ}
 use native.Mathlib.Omega.{arith}
 use mathlib.Core.Path.{◌≡◌, refl}
 use mathlib.Core.Logic.{◌⊎◌, inl, inr}
-use mathlib.Core.Bool.{Bool, true, false, ◌||◌, ◌&&◌}
+use mathlib.Core.Bool.{Bool, true, false, ◌||◌, ◌&&◌, not}
 use lib.Dec.{T}
 use Rattle.trees.specs.Lists.{one, pick}
 
@@ -73,3 +73,10 @@ pick_no b x y e = rw e
 -- `cc` tells two constructors apart by an equation of numbers, from which anything follows
 pub clash : {A : Type 0} → ◌≡◌ {A = ℕ} 0 1 → A
 clash z = absurd (omega arith)
+
+-- a test and its opposite
+pub not_swap : (a b : Bool) → a ≡ not b → b ≡ not a
+not_swap true true e = clash (cc)
+not_swap true false e = refl
+not_swap false true e = refl
+not_swap false false e = clash (cc)

@@ -14,5 +14,6 @@ pub mod Soundness
 pub mod First
 pub mod Lent
 pub mod Spots
+pub mod Slots
 pub mod One
 pub mod Answers

@@ -110,6 +110,10 @@ ruling_accepted (r ∷ rs) a b e =
       | inr f ↦ let q = sym (ruling_fail r rs a f.0 f.1) ∙ e in clash (cc)
     ]
 
+-- what is left to judge once the rules before have passed
+pub verdict_left : (rs ss : List Rule) → verdict rs ≡ accepted fine → verdict (rs ++ ss) ≡ verdict ss
+verdict_left rs ss e = ruling_all rs ss fine (ruling_accepted rs fine fine e).0
+
 -- if every rule passes, it is accepted
 pub ruling_passes : {A : Type 0} (rs : List Rule) (a : A) → Every Passes rs → ruling rs a ≡ accepted a
 unfolding ruling

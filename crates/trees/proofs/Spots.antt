@@ -9,8 +9,7 @@ use borrow.Author.Tests.{eq-eqb, ne_eqb}
 use Rattle.trees.specs.Lists.{lowest, pick}
 use Rattle.trees.specs.Spots.{spot, nowhere, lowest_spot, species_spot}
 use Rattle.trees.specs.declared.SpeciesNode.{SpeciesNode}
-use Rattle.trees.specs.declared.SpeciesSpot.{SpeciesSpot}
-use Rattle.trees.specs.declared.SpeciesSpot.TheVariants.{At, Nowhere}
+use Rattle.std.specs.Prelude.{Option, Some, None}
 use Rattle.trees.proofs.Bools.{clash}
 use Rattle.trees.proofs.Lists.{lowest_cases}
 
@@ -38,8 +37,8 @@ nowhere_lowest ok n e =
 pub node_one : (a b : SpeciesNode) → a.0 ≡ b.0 → a ≡ b
 node_one a b e = ap (λ (n : ℕ). record { 0 = n }) e
 
-pub species_spot_one : (a b : SpeciesSpot) → species_spot a ≡ species_spot b → a ≡ b
-species_spot_one (At a) (At b) e = let q : a.0 ≡ b.0 = cc in ap At (node_one a b q)
-species_spot_one (At a) Nowhere e = clash (cc)
-species_spot_one Nowhere (At b) e = clash (cc)
-species_spot_one Nowhere Nowhere e = refl
+pub species_spot_one : (a b : Option SpeciesNode) → species_spot a ≡ species_spot b → a ≡ b
+species_spot_one (Some a) (Some b) e = let q : a.0 ≡ b.0 = cc in ap Some (node_one a b q)
+species_spot_one (Some a) None e = clash (cc)
+species_spot_one None (Some b) e = clash (cc)
+species_spot_one None None e = refl

@@ -9,5 +9,6 @@ pub mod Rules
 pub mod Lent
 pub mod Spots
 pub mod Answers
+pub mod Slots
 pub mod Promises
 pub mod One

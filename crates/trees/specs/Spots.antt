@@ -3,10 +3,9 @@
 --   lowest_spot ok n == the lowest number below n that fails the test ok; nowhere if none fails
 --   species_spot r == what a search for a species node hands back, in these terms
 -- Assumes nothing.
-use Rattle.std.specs.Prelude.{ℕ, Bool, eqb}
+use Rattle.std.specs.Prelude.{ℕ, Bool, eqb, Option, Some, None}
 use Rattle.trees.specs.Lists.{lowest, pick}
-use Rattle.trees.specs.declared.SpeciesSpot.{SpeciesSpot}
-use Rattle.trees.specs.declared.SpeciesSpot.TheVariants.{At, Nowhere}
+use Rattle.trees.specs.declared.SpeciesNode.{SpeciesNode}
 
 pub data Spot : Type 0 where
   spot : ℕ → Spot
@@ -15,6 +14,6 @@ pub data Spot : Type 0 where
 unfoldable pub lowest_spot : (ℕ → Bool) → ℕ → Spot
 lowest_spot ok n = pick (eqb (lowest ok n) n) nowhere (spot (lowest ok n))
 
-abbrev pub species_spot : SpeciesSpot → Spot
-species_spot (At s) = spot s.0
-species_spot Nowhere = nowhere
+abbrev pub species_spot : Option SpeciesNode → Spot
+species_spot (Some s) = spot s.0
+species_spot None = nowhere

@@ -2,8 +2,10 @@
 -- Assumes nothing.
 use Prim.Native.Nat.{ℕ, zero, suc, ◌+◌, ◌-◌, ◌*◌, ◌<◌, ◌≤◌}
 use native.Mathlib.Omega.{arith}
-use native.Mathlib.Nat.{add-zero}
-use mathlib.Core.Path.{◌≡◌, refl, sym, ap, ◌∙◌}
+use native.Mathlib.Nat.{add-zero, mul-sub}
+use mathlib.Core.Path.{◌≡◌, refl, sym, ap, ap₂, ◌∙◌}
+use Rattle.std.proofs.Common.{mul-le-mul_left}
+use Rattle.words.proofs.Words.{after_offset}
 use mathlib.Core.Bool.{Bool, true, false, ◌&&◌}
 use mathlib.Core.List.{List, [], ◌∷◌, ◌++◌, append_assoc, append-nil}
 use lib.ListN.{length, get_or, take, drop, set, length-drop, drop_of_length-le, take-append-drop}
@@ -18,7 +20,9 @@ use Rattle.blocks.specs.Blocks.{run, word, content}
 use Rattle.blocks.specs.Image.{blank}
 use Rattle.words.specs.Words.{offset, after, Within}
 use Rattle.words.specs.Passing.{Front}
-use Rattle.words.proofs.Tables.{Filling, length_longs, long_in, long_read}
+use Rattle.words.specs.Entries.{EntryLaws}
+use Rattle.words.proofs.Entries.{one_long}
+use Rattle.words.proofs.Tables.{Filling, word_content, length_content, long_in}
 
 -- ---- what is left of a table, and its front
 
@@ -28,70 +32,49 @@ drop_take (suc k) zero l = ap (λ (x : ℕ). take x (drop (suc k) l)) (let z : 0
 drop_take (suc k) (suc n) [] = sym (take-nil (suc n - suc k))
 drop_take (suc k) (suc n) (x ∷ l) = drop_take k n l ∙ (let z : n - k ≡ suc n - suc k = omega arith in rw z)
 
-double : (k : ℕ) → 2 * suc k ≡ suc (suc (2 * k))
-double k = omega arith
+-- the entries of the words from i on: those from k on, and the first k
+module _ {E : Type 0} {size : ℕ} {entries : List ℕ → List E} (laws : EntryLaws size entries) (i n k : ℕ) (l : List ℕ) where
+  pub entries_left : entries (run (i + size * k) (size * (n - k)) l) ≡ drop k (entries (run i (size * n) l))
+  entries_left =
+      rw (laws.rest k (run i (size * n) l), drop_take (size * k) (size * n) (drop i l), drop-drop (size * k) i l, mul-sub size n k) refl
 
-drop_joined : (b k : ℕ) (l : List ℕ) → drop k (joined b l) ≡ joined b (drop (2 * k) l)
-unfolding joined
-drop_joined b zero l = refl
-drop_joined b (suc k) [] = rw double
-drop_joined b (suc k) (x ∷ []) = rw double
-drop_joined b (suc k) (x ∷ y ∷ l) = rw double (drop_joined b k l)
+  pub entries_front : k ≤ n → take k (entries (run i (size * n) l)) ≡ entries (run i (size * k) l)
+  entries_front h = laws.front k (run i (size * n) l) ∙ ap entries (take-take (size * k) (size * n) (drop i l) (mul-le-mul_left size h))
 
-take_joined : (b k : ℕ) (l : List ℕ) → take k (joined b l) ≡ joined b (take (2 * k) l)
-unfolding joined
-take_joined b zero l = refl
-take_joined b (suc k) [] = rw double
-take_joined b (suc k) (x ∷ []) = rw double
-take_joined b (suc k) (x ∷ y ∷ l) = rw double (ap (λ m. (x + b * y) ∷ m) (take_joined b k l))
+  -- the same of the bytes of the first k
+  pub entries_bytes : (b : List ℕ) → k ≤ n → words_of b ≡ run i (size * k) l → entries (words_of b) ≡ take k (entries (run i (size * n) l))
+  entries_bytes b h e = ap entries e ∙ sym (entries_front h)
 
-module _ (i n k : ℕ) (l : List ℕ) where
-  pub words_left : run (i + k) (n - k) l ≡ drop k (run i n l)
-  words_left = rw (drop_take k n (drop i l), drop-drop k i l)
-
-  pub longs_left : longs_of (run (i + 2 * k) (2 * (n - k)) l) ≡ drop k (longs_of (run i (2 * n) l))
-  longs_left =
-      let z : 2 * (n - k) ≡ 2 * n - 2 * k = omega arith in
-      rw (drop_joined 65536 k (run i (2 * n) l), drop_take (2 * k) (2 * n) (drop i l), drop-drop (2 * k) i l, z)
-
-  pub words_front : k ≤ n → take k (run i n l) ≡ run i k l
-  words_front h = take-take k n (drop i l) h
-
-  pub longs_front : k ≤ n → take k (longs_of (run i (2 * n) l)) ≡ longs_of (run i (2 * k) l)
-  longs_front h = take_joined 65536 k (run i (2 * n) l) ∙ ap longs_of (take-take (2 * k) (2 * n) (drop i l) (omega arith))
+  -- the first
+  pub entries_first : (v : E) → 0 < n → entries (run i size l) ≡ v ∷ [] → take 1 (entries (run i (size * n) l)) ≡ v ∷ []
+  entries_first v h e =
+      let z : size * 1 ≡ size = omega arith in
+      laws.front 1 (run i (size * n) l) ∙ ap entries (take-take (size * 1) (size * n) (drop i l) (mul-le-mul_left size h)) ∙ rw z e
 
 -- all entries from k on, as code takes them
-abbrev pub left : ℕ → List ℕ → List ℕ
+abbrev pub left : {E : Type 0} → ℕ → List E → List E
 left k l = take (length l - k) (drop k l)
 
-pub left_is : (k : ℕ) (l : List ℕ) → left k l ≡ drop k l
+pub left_is : {E : Type 0} (k : ℕ) (l : List E) → left k l ≡ drop k l
 left_is k l = take_all (length l - k) (drop k l) (rw (length-drop k l) (omega arith))
 
-pub length_left : (k : ℕ) (l : List ℕ) → length (left k l) ≡ length l - k
+pub length_left : {E : Type 0} (k : ℕ) (l : List E) → length (left k l) ≡ length l - k
 length_left k l = ap length (left_is k l) ∙ length-drop k l
-
-module _ (s : List ℕ) (i n k : ℕ) (l : List ℕ) (e : length l ≡ n) (h : k < n) where
-  pub words_asked : Within s i n → Within s (i + k) (length (left k l)) × (0 < length (left k l))
-  words_asked w = rw (length_left k l) (record { room = omega (arith, w.room) }, omega arith)
-
-  pub longs_asked : Within s i (2 * n) → Within s (i + 2 * k) (2 * length (left k l)) × (0 < length (left k l))
-  longs_asked w = rw (length_left k l) (record { room = omega (arith, w.room) }, omega arith)
 
 -- ---- the front of a table
 
-module _ (new old : List ℕ) where
-  pub front_is : (last : List ℕ) (r : ℕ) → 0 < r → r ≤ length old → last ≡ take r new → Front new old (last ++ drop r old) r
-  front_is last r h l e = record { some = h; low = l; is = rw e }
+module _ {E : Type 0} where
+  pub front_is : (new old last : List E) (r : ℕ) → 0 < r → r ≤ length old → last ≡ take r new → Front new old (last ++ drop r old) r
+  front_is new old last r h l e = record { some = h; low = l; is = rw e }
 
--- one entry alone
-front_one : (new old : List ℕ) (v : ℕ) → 0 < length old → 0 < length new → v ≡ get_or new 0 0 → Front new old (set old 0 v) 1
-front_one [] old v h l e = absurd (omega arith)
-front_one (y ∷ new) [] v h l e = absurd (omega arith)
-front_one (y ∷ new) (x ∷ old) v h l e = record { some = omega arith; low = omega arith; is = rw e }
+  -- one entry alone
+  pub front_one : (new old : List E) (v : E) → 0 < length old → take 1 new ≡ v ∷ [] → Front new old (set old 0 v) 1
+  front_one new [] v h e = absurd (omega arith)
+  front_one new (x ∷ old) v h e = record { some = omega arith; low = omega arith; is = sym (ap (λ l. l ++ old) e) }
 
 -- ---- a table filled piece by piece
 
-filling_some : (old new out last : List ℕ) (k r : ℕ) → Filling old new out k → Front (drop k new) (left k out) last r → Filling old new (put_mid k (length out - k) out last) (k + r)
+filling_some : {E : Type 0} (old new out last : List E) (k r : ℕ) → Filling old new out k → Front (drop k new) (left k out) last r → Filling old new (put_mid k (length out - k) out last) (k + r)
 filling_some old new out last k r f p =
     let n : length (take k new) ≡ k = length-take-le k new (omega (arith, f.low, f.long)) in
     let t : take k out ≡ take k new = ap (take k) f.is ∙ take_at (take k new) (drop k old) k n in
@@ -109,31 +92,24 @@ filling_some old new out last k r f p =
       is = e;
     }
 
-module _ (s : List ℕ) (i : ℕ) (old out last : List ℕ) (k r : ℕ) where
+module _ {E : Type 0} {size : ℕ} {entries : List ℕ → List E} (laws : EntryLaws size entries) (s : List ℕ) (i : ℕ) (old out last : List E) (k r : ℕ) where
   rest : length out ≡ length old → length (left k out) ≡ length old - k
   rest e = length_left k out ∙ ap (λ (n : ℕ). n - k) e
 
-  pub filling_words : Filling old (run i (length old) (content s)) out k → Front (run (i + k) (length (left k out)) (content s)) (left k out) last r → Filling old (run i (length old) (content s)) (put_mid k (length out - k) out last) (k + r)
-  filling_words f p = filling_some old (run i (length old) (content s)) out last k r f (rw (rest f.same, words_left i (length old) k (content s)) at p)
+  pub filling_entries : Filling old (entries (run i (size * length old) (content s))) out k → Front (entries (run (i + size * k) (size * length (left k out)) (content s))) (left k out) last r → Filling old (entries (run i (size * length old) (content s))) (put_mid k (length out - k) out last) (k + r)
+  filling_entries f p = filling_some old (entries (run i (size * length old) (content s))) out last k r f (rw (rest f.same, entries_left laws i (length old) k (content s)) at p)
 
-  pub filling_longs : Filling old (longs_of (run i (2 * length old) (content s))) out k → Front (longs_of (run (i + 2 * k) (2 * length (left k out)) (content s))) (left k out) last r → Filling old (longs_of (run i (2 * length old) (content s))) (put_mid k (length out - k) out last) (k + r)
-  filling_longs f p = filling_some old (longs_of (run i (2 * length old) (content s))) out last k r f (rw (rest f.same, longs_left i (length old) k (content s)) at p)
+-- ---- a number of two words, the second where the next one stands
 
--- ---- a number that begins with the last word of a block
+module _ (s : List ℕ) (i at : ℕ) (w : Within s i 2) (e : at ≡ offset i) where
+  pub long_in_words : after at + 1 < length s
+  long_in_words = long_in s i 0 at (omega (arith, w.room)) (rw add-zero e)
 
-module _ (s : List ℕ) (i n at : ℕ) (w : Within s i (2 * n)) (h : 0 < n) (e : at ≡ offset i) where
-  here : at ≡ offset (i + 2 * 0)
-  here = rw add-zero e
-
-  pub one_in : after at + 1 < length s
-  one_in = long_in s i 0 at (omega (arith, w.room)) here
-
-  module _ (old : List ℕ) (l : length old ≡ n) (v : ℕ) (f : v ≡ word s at + 65536 * word s (after at)) where
-    pub one_read : v ≡ get_or (longs_of (run i (2 * n) (content s))) 0 0
-    one_read = long_read s i n 0 at v w h here f
-
-    pub one_front : Front (longs_of (run i (2 * n) (content s))) old (set old 0 v) 1
-    one_front = front_one _ old v (omega arith) (omega (arith, length_longs s i n w)) one_read
+  pub long_from_word : (v : ℕ) → v ≡ word s at + 65536 * word s (after at) → longs_of (run i 2 (content s)) ≡ v ∷ []
+  long_from_word v f =
+      let low : word s at ≡ get_or (content s) i 0 = ap (word s) e ∙ sym (word_content s i (omega (arith, w.room))) in
+      let high : word s (after at) ≡ get_or (content s) (i + 1) 0 = ap (word s) (ap after e ∙ after_offset i) ∙ sym (word_content s (i + 1) (omega (arith, w.room))) in
+      one_long i (content s) v (omega (arith, w.room, length_content s)) (f ∙ ap₂ (λ (x y : ℕ). x + 65536 * y) low high)
 
 -- ---- words that are all zero
 

@@ -1,4 +1,5 @@
 pub mod Words
+pub mod Entries
 pub mod Tables
 pub mod Pieces
 pub mod Fronts

@@ -1,12 +1,14 @@
 -- One answer only: any two results that meet a contract of this crate are equal. Assumes nothing.
-use Prim.Native.Nat.{ℕ}
+use Prim.Native.Nat.{ℕ, ◌*◌}
+use lib.ListN.{length}
+use Rattle.blocks.specs.Halves.{longs_of}
 use native.Mathlib.Omega.{arith}
-use mathlib.Core.Path.{sym, ◌∙◌}
+use mathlib.Core.Path.{◌≡◌, sym, ◌∙◌}
 use mathlib.Core.Logic.{⊎_elim}
 use mathlib.Core.List.{List}
 use Rattle.trees.specs.One.{Single}
 use Rattle.trees.proofs.One.{single_value}
-use Rattle.words.specs.Promises.{OffsetOfMeets, NextMeets, TogetherMeets, BytesOfMeets, LongAtMeets, LongFromMeets, CopyWordsMeets, CopyLongsMeets, NthWordMeets, ReadWordsMeets, ReadLongsMeets, BlankFromMeets}
+use Rattle.words.specs.Promises.{OffsetOfMeets, NextMeets, TogetherMeets, BytesOfMeets, LongAtMeets, LongFromMeets, CopyMeets, ReadMeets, CopyWordsMeets, CopyLongsMeets, NthWordMeets, ReadWordsMeets, ReadLongsMeets, BlankFromMeets}
 
 -- ---- where a word stands
 
@@ -31,6 +33,12 @@ long_from_one s at = single_value _
 
 -- ---- what is answered, or what the lent table holds
 
+pub copy_one : {E : Type 0} (entries : List ℕ → List E) (bytes : List ℕ) (out : List E) → Single (CopyMeets entries bytes out)
+copy_one entries bytes out = single_value _
+
+pub read_one : {E : Type 0} (size : ℕ) (entries : List ℕ → List E) (image : List ℕ) (i : ℕ) (out : List E) → Single (ReadMeets size entries image i out)
+read_one size entries image i out = single_value _
+
 pub copy_words_one : (bytes out : List ℕ) → Single (CopyWordsMeets bytes out)
 copy_words_one bytes out = single_value _
 
@@ -48,3 +56,17 @@ read_longs_one image i out = single_value _
 
 pub blank_from_one : (image : List ℕ) (i : ℕ) → Single (BlankFromMeets image i)
 blank_from_one image i = single_value _
+
+-- ---- what `copy` and `read` promise of numbers of 16 and of 32 bits
+
+pub copy_words_meets : (bytes out left : List ℕ) → CopyMeets (λ w. w) bytes out left → CopyWordsMeets bytes out left
+copy_words_meets bytes out left h = h
+
+pub copy_longs_meets : (bytes out left : List ℕ) → CopyMeets longs_of bytes out left → CopyLongsMeets bytes out left
+copy_longs_meets bytes out left h = h
+
+pub read_words_meets : (image : List ℕ) (i : ℕ) (out left : List ℕ) → ReadMeets 1 (λ w. w) image i out left → ReadWordsMeets image i out left
+read_words_meets image i out left h = let z : 1 * length out ≡ length out = omega arith in rw z at h
+
+pub read_longs_meets : (image : List ℕ) (i : ℕ) (out left : List ℕ) → ReadMeets 2 longs_of image i out left → ReadLongsMeets image i out left
+read_longs_meets image i out left h = h

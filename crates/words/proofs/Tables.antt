@@ -1,16 +1,15 @@
 -- One turn of each loop over a table: the entry that is read, the entry that is put, and the byte at which the next one stands. Assumes nothing.
-use Prim.Native.Nat.{ℕ, ◌+◌, ◌*◌, ◌<◌, ◌≤◌}
+use Prim.Native.Nat.{ℕ, suc, ◌+◌, ◌*◌, ◌<◌, ◌≤◌}
 use native.Mathlib.Omega.{arith}
-use native.Mathlib.Nat.{zero-add}
 use native.Mathlib.Numerals.{add-one}
 use mathlib.Core.Path.{◌≡◌, refl, sym, ap, ◌∙◌}
-use mathlib.Core.List.{List, ◌++◌, append-nil}
-use lib.ListN.{length, get_or, take, drop, set, length-set, drop_of_length-le}
-use lib.Seq.{paste-suc, take_all, get_or-take, get_or-drop}
+use mathlib.Core.List.{List, [], ◌∷◌, ◌++◌, append_assoc}
+use lib.ListN.{length, get_or, take, drop, set, length-set}
+use lib.Seq.{length-take-le, drop-cons, set-append_seam, take-add, get_or-take, get_or-drop}
 use Rattle.blocks.specs.Halves.{longs_of}
 use Rattle.blocks.specs.Blocks.{run, word, count, content}
 use Rattle.words.specs.Words.{offset, after, Within}
-use Rattle.blocks.proofs.Halves.{length_joined, get_or_joined, length_run}
+use Rattle.blocks.proofs.Halves.{get_or_joined, length_run}
 use Rattle.blocks.proofs.Blocks.{length_contents}
 use Rattle.words.proofs.Words.{after_offset, offset_in, word_contents}
 
@@ -29,27 +28,31 @@ long_behind i k at b c e f g =
 -- ---- a table filled from the front
 
 -- out is old with its first k entries those of new
-pub record Filling (old new out : List ℕ) (k : ℕ) : Type 0 where
+pub record Filling {E : Type 0} (old new out : List E) (k : ℕ) : Type 0 where
   pub low : k ≤ length old
   pub long : length new ≡ length old
   pub same : length out ≡ length old
   pub is : out ≡ take k new ++ drop k old
 
-pub filling_start : (old new : List ℕ) → length new ≡ length old → Filling old new old 0
-filling_start old new e = record { low = omega arith; long = e; same = refl; is = refl }
+module _ {E : Type 0} (old new : List E) where
+  pub filling_start : length new ≡ length old → Filling old new old 0
+  filling_start e = record { low = omega arith; long = e; same = refl; is = refl }
 
-pub filling_more : (old new out : List ℕ) (k v : ℕ) → Filling old new out k → k < length out → v ≡ get_or new k 0 → Filling old new (set out k v) (k + 1)
-filling_more old new out k v f h e =
-    record {
-      low = omega (arith, f.same);
-      long = f.long;
-      same = length-set out k v ∙ f.same;
-      is = rw (f.is, e, add-one) (simp zero-add at (paste-suc old 0 new k 0 (rw zero-add (omega (arith, f.same))) (omega (arith, f.long, f.same))));
-    }
-
-pub filling_end : (old new out : List ℕ) (k : ℕ) → Filling old new out k → length out ≤ k → out ≡ new
-filling_end old new out k f h =
-    f.is ∙ rw (take_all k new (omega (arith, f.long, f.same)), drop_of_length-le old {i = k} (omega (arith, f.same))) (append-nil new)
+  pub filling_more : (out : List E) (k : ℕ) (v : E) → Filling old new out k → k < length out → take 1 (drop k new) ≡ v ∷ [] → Filling old new (set out k v) (k + 1)
+  filling_more out k v f h e =
+      let rest = drop (suc k) old in
+      let here = get_or old k v in
+      let n : length (take k new) ≡ k = length-take-le k new (omega (arith, f.low, f.long)) in
+      let lt : k < length old = omega (arith, f.same) in
+      let was : out ≡ take k new ++ here ∷ rest = f.is ∙ ap (λ l. take k new ++ l) (drop-cons old k v lt) in
+      let put : set (take k new ++ here ∷ rest) k v ≡ take k new ++ v ∷ rest = ap (λ (j : ℕ). set (take k new ++ here ∷ rest) j v) (sym n) ∙ set-append_seam (take k new) here rest v in
+      let more : take (k + 1) new ≡ take k new ++ v ∷ [] = take-add k 1 new ∙ ap (λ l. take k new ++ l) e in
+      record {
+        low = omega arith;
+        long = f.long;
+        same = length-set out k v ∙ f.same;
+        is = ap (λ l. set l k v) was ∙ put ∙ rw (more, add-one) (sym (append_assoc (take k new) (v ∷ []) rest));
+      }
 
 -- ---- the entry that is read
 
@@ -63,9 +66,6 @@ module _ (s : List ℕ) where
   -- k words from word i on
   pub length_words_in : (i k : ℕ) → Within s i k → length (run i k (content s)) ≡ k
   length_words_in i k h = length_run i k (content s) (omega (arith, length_content, h.room))
-
-  pub length_longs : (i k : ℕ) → Within s i (2 * k) → length (longs_of (run i (2 * k) (content s))) ≡ k
-  length_longs i k h = length_joined 65536 k _ (length_words_in i (2 * k) h)
 
   pub word_in : (i at : ℕ) → i < 253 * count s → at ≡ offset i → at + 1 < length s
   word_in i at h e = omega (arith, offset_in (count s) i h)

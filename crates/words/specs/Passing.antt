@@ -3,7 +3,7 @@
 -- Assumes nothing.
 use Rattle.std.specs.Prelude.{ℕ, ◌<◌, ◌≤◌, ◌≡◌, List, ◌++◌, length, take, drop}
 
-pub record Front (new old out : List ℕ) (r : ℕ) : Type 0 where
+pub record Front {E : Type 0} (new old out : List E) (r : ℕ) : Type 0 where
   pub some : 0 < r
   pub low : r ≤ length old
   pub is : out ≡ take r new ++ drop r old

@@ -5,6 +5,9 @@
 --   BytesOfMeets image i m r       <-> r is the bytes of the m words from i on, which stand in one block
 --   LongAtMeets s at r             <-> r is the number of 32 bits whose low word stands at byte `at`, and its high word where the next word stands
 --   LongFromMeets s at r           <-> the same, and its high word stands two bytes on
+--   CopyMeets entries bytes out left       <-> the lent table holds the entries that the bytes are
+--   ReadMeets size entries image i out left <-> the lent table holds the entries, of `size` words each, from word i on
+-- and at the two kinds of entries:
 --   CopyWordsMeets bytes out left  <-> the lent table holds the numbers of 16 bits that the bytes are; CopyLongsMeets: those of 32 bits
 --   NthWordMeets image i r         <-> r is word i
 --   ReadWordsMeets image i out left <-> the lent table holds the words from i on; ReadLongsMeets: the numbers of two words each
@@ -33,6 +36,12 @@ LongAtMeets s at r = r ≡ word s at + 65536 * word s (after at)
 
 abbrev pub LongFromMeets : List ℕ → ℕ → ℕ → Type 0
 LongFromMeets s at r = r ≡ word s at + 65536 * word s (at + 2)
+
+abbrev pub CopyMeets : {E : Type 0} → (List ℕ → List E) → List ℕ → List E → List E → Type 0
+CopyMeets entries bytes out left = left ≡ entries (words_of bytes)
+
+abbrev pub ReadMeets : {E : Type 0} → ℕ → (List ℕ → List E) → List ℕ → ℕ → List E → List E → Type 0
+ReadMeets size entries image i out left = left ≡ entries (run i (size * length out) (content image))
 
 abbrev pub CopyWordsMeets : List ℕ → List ℕ → List ℕ → Type 0
 CopyWordsMeets bytes out left = left ≡ words_of bytes

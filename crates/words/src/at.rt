@@ -45,7 +45,7 @@ pub fn bytes_of(image: &[u8], i: usize, m: usize) -> &[u8]
 pub(crate) fn low_high(low: u16, high: u16) -> u32
     ensures { result ≡ low + 65536 * high }
 {
-    (low as u32) + 65536 * (high as u32)
+    u32::from(low) + 65536 * u32::from(high)
 }
 
 // The number of 32 bits whose low word stands at byte `at`.

@@ -3,5 +3,6 @@
 #![tactic(auto)]
 
 pub mod at;
+pub mod entry;
 pub mod piece;
 pub mod read;

@@ -1,12 +1,12 @@
 // Words of an image read, by their number among the words of all blocks. A table is read in pieces: the part of it that lies in one block is
 // bytes side by side.
 ghost use Rattle.std.specs.Prelude.{◌+◌, ◌*◌, ◌<◌, length};
-ghost use Rattle.blocks.specs.Halves.{longs_of};
 ghost use Rattle.blocks.specs.Blocks.{run, word, content};
 ghost use Rattle.words.specs.Words.{Within};
 ghost use Rattle.words.specs.Passing.{Front};
-ghost use Rattle.words.specs.Promises.{NthWordMeets, ReadWordsMeets, ReadLongsMeets, BlankFromMeets};
+ghost use Rattle.words.specs.Promises.{NthWordMeets, ReadMeets, BlankFromMeets};
 
+use crate::entry::Entry;
 use crate::{at, piece};
 use blocks::word;
 
@@ -18,50 +18,29 @@ pub fn nth_word(image: &[u8], i: usize) -> u16
     word::word_at(image, at::offset_of(i))
 }
 
-// The words from i on into the front of `out`, as far as the block of word i goes: how many.
-fn some_words(image: &[u8], i: usize, out: &mut [u16]) -> usize
-    requires { Within image.now i (length out.old) × (0 < length out.old) }
-    ensures { Front (run i (length out.old) (content image.now)) out.old out.new result }
+// The entries from word i on into the front of `out`, as far as the block of word i goes: how many. An entry that begins in one block and
+// ends in the next is read by itself.
+fn some<T: Entry>(image: &[u8], i: usize, out: &mut [T]) -> usize
+    requires { Within image.now i (T.WORDS * length out.old) × (0 < length out.old) }
+    ensures { Front (T.entries (run i (T.WORDS * length out.old) (content image.now))) out.old out.new result }
 {
-    let m = at::together(i, out.len());
-    piece::copy_words(at::bytes_of(image, i, m), &mut out[..m]);
-    m
-}
-
-// The words from i on into all of `out`.
-pub fn read_words(image: &[u8], i: usize, out: &mut [u16])
-    requires { Within image.now i (length out.old) }
-    ensures { ReadWordsMeets image.now i out.old out.new }
-{
-    let mut k: usize = 0;
-    while k < out.len() {
-        k += some_words(image, i + k, &mut out[k..]);
-    }
-}
-
-// The words from i on, two to a number, into the front of `out`, as far as the block of word i goes: how many numbers. A number that begins
-// with the last word of a block is read by itself.
-fn some_longs(image: &[u8], i: usize, out: &mut [u32]) -> usize
-    requires { Within image.now i (2 * length out.old) × (0 < length out.old) }
-    ensures { Front (longs_of (run i (2 * length out.old) (content image.now))) out.old out.new result }
-{
-    let m = at::together(i, 2 * out.len()) / 2;
+    let m = at::together(i, T::WORDS * out.len()) / T::WORDS;
     if m == 0 {
-        out[0] = at::long_at(image, at::offset_of(i));
+        out[0] = T::from_word(image, i);
         return 1;
     }
-    piece::copy_longs(at::bytes_of(image, i, 2 * m), &mut out[..m]);
+    piece::copy(at::bytes_of(image, i, T::WORDS * m), &mut out[..m]);
     m
 }
 
-// The words from i on, two to a number, into all of `out`.
-pub fn read_longs(image: &[u8], i: usize, out: &mut [u32])
-    requires { Within image.now i (2 * length out.old) }
-    ensures { ReadLongsMeets image.now i out.old out.new }
+// The entries from word i on into all of `out`.
+pub fn read<T: Entry>(image: &[u8], i: usize, out: &mut [T])
+    requires { Within image.now i (T.WORDS * length out.old) }
+    ensures { ReadMeets T.WORDS T.entries image.now i out.old out.new }
 {
     let mut k: usize = 0;
     while k < out.len() {
-        k += some_longs(image, i + 2 * k, &mut out[k..]);
+        k += some(image, i + T::WORDS * k, &mut out[k..]);
     }
 }
 

@@ -1,11 +1,16 @@
 -- Private to the functions that put a family: what each asks of its caller; nothing of it is part of a promise.
+--   family_told w places labels == the two trees and all of the history's tables
 --   TreeRoom, StoryRoom, TablesRoom <-> tables of one length, and room for them in s from word i on
 --   ImageRoom f s <-> tables of one length for each tree, 2,047 entries at most, and s is as many bytes as the image of f
 -- Assumes nothing.
 use Rattle.std.specs.Prelude.{ℕ, ◌+◌, ◌*◌, ◌≤◌, ◌≡◌, List, length}
 use Rattle.blocks.specs.Image.{fewest}
 use Rattle.words.specs.Words.{Within}
-use Rattle.families.specs.Families.{Family, word_count, Even}
+use Rattle.trees.specs.Tables.{Pair}
+use Rattle.families.specs.Families.{Family, family, word_count, Even}
+
+abbrev pub family_told : Pair → List ℕ → List ℕ → Family
+family_told w places labels = family w.sp w.st w.gp w.gt places labels
 
 pub record TreeRoom (par tax s : List ℕ) (i : ℕ) : Type 0 where
   pub even : length tax ≡ length par

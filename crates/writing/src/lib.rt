@@ -3,58 +3,27 @@
 
 mod put;
 
+ghost use Rattle.trees.specs.Tables.{pair_of};
 ghost use Rattle.writing.specs.Promises.{WriteImageMeets};
 
-use offers::Offered;
-use trees::Refusal;
-
-#[derive(Clone, Copy)]
-pub enum Written {
-    Bytes(usize),
-    Refused(Refusal),
-}
+use trees::{Refusal, Trees, refuse};
 
 // The image of two trees and a history, of which the first q places and labels count, into the first bytes of a lent buffer; answers
 // how many. Refusals: the trees' own, then 7, then 8 to 11, then 12 for the buffer; they leave it as it was.
 pub fn write_image(
-    species_parents: &[u16],
-    species_taxa: &[u32],
-    gene_parents: &[u16],
-    gene_taxa: &[u32],
+    trees: &Trees<'_>,
     places: &[u16],
     labels: &[u16],
     image: &mut [u8],
-) -> Written
-    ensures { WriteImageMeets species_parents.now species_taxa.now gene_parents.now gene_taxa.now places.now labels.now image.old result image.new }
+) -> Result<usize, Refusal>
+    ensures { WriteImageMeets (pair_of trees.now) places.now labels.now image.old result image.new }
 {
-    let offered = offers::judge_offer(
-        species_parents,
-        species_taxa,
-        gene_parents,
-        gene_taxa,
-        places,
-        labels,
-    );
-    if let Offered::Refused(r) = offered {
-        return Written::Refused(r);
-    }
-    let q = gene_parents.len();
-    let n = put::image_size(species_parents.len(), q);
+    offers::judge_offer(trees, places, labels)?;
+    let q = trees.genes.parents.len();
+    let n = put::image_size(trees.species.parents.len(), q);
     if image.len() < n {
-        return Written::Refused(Refusal {
-            number: 12,
-            tree: 0,
-            place: 0,
-        });
+        return Err(refuse(12, 0, 0));
     }
-    put::put_family(
-        species_parents,
-        species_taxa,
-        gene_parents,
-        gene_taxa,
-        &places[..q],
-        &labels[..q],
-        &mut image[..n],
-    );
-    Written::Bytes(n)
+    put::put_family(trees, &places[..q], &labels[..q], &mut image[..n]);
+    Ok(n)
 }

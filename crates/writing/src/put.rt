@@ -3,11 +3,13 @@ ghost use Rattle.std.specs.Prelude.{◌≡◌, ◌+◌, ◌*◌, ◌≤◌, ◌+
 ghost use Rattle.blocks.specs.Halves.{low_high_lem};
 ghost use Rattle.blocks.specs.Image.{fewest};
 ghost use Rattle.puts.specs.Puts.{puts};
-ghost use Rattle.families.specs.Families.{family, word_count, tables_of};
+ghost use Rattle.trees.specs.Tables.{pair_of};
+ghost use Rattle.families.specs.Families.{word_count, tables_of};
 ghost use Rattle.families.specs.Writing.{family_image};
-ghost use Rattle.writing.specs.Conditions.{TreeRoom, StoryRoom, TablesRoom, ImageRoom};
+ghost use Rattle.writing.specs.Conditions.{family_told, TreeRoom, StoryRoom, TablesRoom, ImageRoom};
 
 use puts::{seal, table};
+use trees::{Tree, Trees};
 
 // How many bytes the image of p species nodes and q gene nodes has.
 pub(crate) fn image_size(p: usize, q: usize) -> usize
@@ -18,12 +20,12 @@ pub(crate) fn image_size(p: usize, q: usize) -> usize
 }
 
 // The two tables of a tree, from word i on.
-fn put_tree(parents: &[u16], taxa: &[u32], image: &mut [u8], i: usize)
-    requires { TreeRoom parents.now taxa.now image.old i }
-    ensures { image.new ≡ puts image.old i (parents.now ++ low_high_lem taxa.now) }
+fn put_tree(tree: &Tree<'_>, image: &mut [u8], i: usize)
+    requires { TreeRoom tree.now.parents.now tree.now.taxa.now image.old i }
+    ensures { image.new ≡ puts image.old i (tree.now.parents.now ++ low_high_lem tree.now.taxa.now) }
 {
-    table::put_words(image, i, parents);
-    table::put_longs(image, i + parents.len(), taxa);
+    table::put(image, i, tree.parents);
+    table::put(image, i + tree.parents.len(), tree.taxa);
 }
 
 // The two tables of a history, from word i on.
@@ -31,57 +33,31 @@ fn put_story(places: &[u16], labels: &[u16], image: &mut [u8], i: usize)
     requires { StoryRoom places.now labels.now image.old i }
     ensures { image.new ≡ puts image.old i (places.now ++ labels.now) }
 {
-    table::put_words(image, i, places);
-    table::put_words(image, i + places.len(), labels);
+    table::put(image, i, places);
+    table::put(image, i + places.len(), labels);
 }
 
 // The six tables of a family, from word i on.
-fn put_tables(
-    species_parents: &[u16],
-    species_taxa: &[u32],
-    gene_parents: &[u16],
-    gene_taxa: &[u32],
-    places: &[u16],
-    labels: &[u16],
-    image: &mut [u8],
-    i: usize,
-)
-    requires { TablesRoom (family species_parents.now species_taxa.now gene_parents.now gene_taxa.now places.now labels.now) image.old i }
-    ensures { image.new ≡ puts image.old i (tables_of (family species_parents.now species_taxa.now gene_parents.now gene_taxa.now places.now labels.now)) }
+fn put_tables(trees: &Trees<'_>, places: &[u16], labels: &[u16], image: &mut [u8], i: usize)
+    requires { TablesRoom (family_told (pair_of trees.now) places.now labels.now) image.old i }
+    ensures { image.new ≡ puts image.old i (tables_of (family_told (pair_of trees.now) places.now labels.now)) }
 {
-    let g = i + 3 * species_parents.len();
-    put_tree(species_parents, species_taxa, image, i);
-    put_tree(gene_parents, gene_taxa, image, g);
-    put_story(places, labels, image, g + 3 * gene_parents.len());
+    let g = i + 3 * trees.species.parents.len();
+    put_tree(&trees.species, image, i);
+    put_tree(&trees.genes, image, g);
+    put_story(places, labels, image, g + 3 * trees.genes.parents.len());
 }
 
 // The image of a family, into all of `image`.
-pub(crate) fn put_family(
-    species_parents: &[u16],
-    species_taxa: &[u32],
-    gene_parents: &[u16],
-    gene_taxa: &[u32],
-    places: &[u16],
-    labels: &[u16],
-    image: &mut [u8],
-)
-    requires { ImageRoom (family species_parents.now species_taxa.now gene_parents.now gene_taxa.now places.now labels.now) image.old }
-    ensures { image.new ≡ family_image (family species_parents.now species_taxa.now gene_parents.now gene_taxa.now places.now labels.now) }
+pub(crate) fn put_family(trees: &Trees<'_>, places: &[u16], labels: &[u16], image: &mut [u8])
+    requires { ImageRoom (family_told (pair_of trees.now) places.now labels.now) image.old }
+    ensures { image.new ≡ family_image (family_told (pair_of trees.now) places.now labels.now) }
 {
-    let p = species_parents.len();
-    let q = gene_parents.len();
+    let p = trees.species.parents.len();
+    let q = trees.genes.parents.len();
     let header = [1u16, p as u16, q as u16];
-    table::put_words(image, 0, &header);
-    put_tables(
-        species_parents,
-        species_taxa,
-        gene_parents,
-        gene_taxa,
-        places,
-        labels,
-        image,
-        3,
-    );
+    table::put(image, 0, &header);
+    put_tables(trees, places, labels, image, 3);
     table::put_zeros(image, 3 + 3 * p + 5 * q);
     seal::seal_all(image);
 }

@@ -7,13 +7,13 @@ use Rattle.bits.proofs.Childing.{scan_more}
 use borrow.Author.Rules.{rules}
 use Rattle.bits.proofs.children_of.Goals as goal
 
-pub loop-i-init : goal.loop-i-init
+pub loop-parent-init : goal.loop-parent-init
 unfolding range keep_if
-loop-i-init c = (search rules, search rules, search rules, refl)
+loop-parent-init c = (search rules, refl)
 
-pub loop-i-preserved : goal.loop-i-preserved
-loop-i-preserved c = (search rules, search rules, search rules, scan_more _ _ _ _ _ (search rules) c.one_if-count.ensures.0 c.loop-i.invariant.3)
+pub loop-parent-preserved : goal.loop-parent-preserved
+loop-parent-preserved c = scan_more _ _ _ _ _ (search rules) (rw c.from.ensures at c.from-count.ensures) c.loop-parent.invariant
 
 pub returns : goal.returns
 unfolding kids nodes
-returns c = let e : c.loop-i.i ≡ length c.args.parents.now = search rules in rw e at c.loop-i.invariant.3
+returns c = let e : c.loop-parent.parent-index ≡ length c.args.parents.now = search rules in rw e at c.loop-parent.invariant.1

@@ -1,12 +1,8 @@
 -- `bits::paired_at`. Assumes nothing.
-use borrow.Author.Tests.{eq-eqb, ne_eqb}
 use Rattle.trees.specs.Rules.{paired}
+use Rattle.shapes.specs.Counts.{is_paired}
 use Rattle.bits.proofs.paired_at.Goals as goal
 
-pub returns-then-k-eq0 : goal.returns-then-k-eq0
-unfolding paired
-returns-then-k-eq0 c = rw (← c.children_of-k.ensures, eq-eqb _ 0 c.if-k-eq0.true)
-
-pub returns-else-k-eq0 : goal.returns-else-k-eq0
-unfolding paired
-returns-else-k-eq0 c = rw (← c.children_of-k.ensures, ne_eqb _ 0 c.if-k-eq0.false)
+pub returns : goal.returns
+unfolding paired is_paired
+returns c = rw c.children_of.ensures at c.paired.ensures

@@ -1,13 +1,18 @@
 -- `climbs::count_climbs`: the sums by climbing are the history's. Assumes nothing.
-use mathlib.Core.Path.{refl}
-use Rattle.climbs.proofs.Counting.{climbable, sums_lossy, sums_tally}
+use Rattle.counts.proofs.Adding.{story_addable, story_added}
+use Rattle.climbs.specs.Climbing.{steps_of}
+use Rattle.climbs.proofs.Counting.{steps_edge, climbable}
+use borrow.Author.Rules.{rules}
 use Rattle.climbs.proofs.count_climbs.Goals as goal
 
-pub add_up-sums-requires : goal.add_up-sums-requires
-add_up-sums-requires c = (climbable c.requires, c.requires.labels_room)
-
-pub losses_of-requires : goal.losses_of-requires
-losses_of-requires c = sums_lossy c.requires c.add_up-sums.ensures
+pub add_up-requires : goal.add_up-requires
+add_up-requires c =
+    let Y = c.requires in
+    let s = steps_of c.args.trees.now.species.parents.now c.args.trees.now.genes.parents.now c.args.places.now in
+    (s, story_addable Y s (steps_edge Y) _ _ (λ g l. let C = climbable Y in search rules) (λ g r l p. search rules))
 
 pub returns : goal.returns
-returns c = sums_tally c.requires c.add_up-sums.ensures _ refl c.losses_of.ensures refl refl
+returns c =
+    let Y = c.requires in
+    let s = steps_of c.args.trees.now.species.parents.now c.args.trees.now.genes.parents.now c.args.places.now in
+    story_added Y s (steps_edge Y) _ (c.add_up.ensures s (story_addable Y s (steps_edge Y) _ _ (λ g l. let C = climbable Y in search rules) (λ g r l p. search rules)))

@@ -1,12 +1,9 @@
 -- `counts::add_up`: the sums over the nodes passed. Assumes nothing.
-use Prim.Native.Nat.{◌-◌, ◌≤◌}
+use Prim.Native.Nat.{ℕ, ◌≤◌}
 use mathlib.Core.Path.{◌≡◌}
-use lib.ListN.{length}
-use Rattle.counts.specs.Sums.{kinds_to, steps_to_lem}
+use Rattle.trees.specs.Lists.{range, total}
+use Rattle.counts.specs.Adding.{kinds_to, Addable}
 use Rattle.counts.proofs.add_up.Given as goal
 
 abbrev pub invariant-loop-c : goal.invariant-loop-c
-invariant-loop-c l = (l.q ≡ length l.gene_parents) × (l.c ≤ l.q) × (l.duplications ≡ kinds_to l.labels 2 l.c) × (l.speciations ≡ kinds_to l.labels 1 l.c) × (l.climbs ≡ steps_to_lem l.depths l.gene_parents l.places l.c) × (l.duplications ≤ l.c) × (l.speciations ≤ l.c)
-
-abbrev pub decreases-loop-c : goal.decreases-loop-c
-decreases-loop-c l = l.q - l.c
+invariant-loop-c g l = (l.duplications ≡ kinds_to l.labels 2 l.c) × (l.speciations ≡ kinds_to l.labels 1 l.c) × ((s : ℕ → ℕ) → Addable (goal.F-pre g l.steps) (goal.F-post g l.steps) l.labels s → l.climbs ≡ total s (range 0 l.c)) × (l.duplications ≤ l.c) × (l.speciations ≤ l.c)

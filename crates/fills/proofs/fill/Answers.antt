@@ -1,6 +1,6 @@
 -- `fills::fill`: the leaves passed, and all that follows from them, are done. Assumes nothing.
 use mathlib.Core.Path.{refl, ◌∙◌}
-use Rattle.trees.specs.Tables.{pair}
+use Rattle.trees.specs.Tables.{pair_of}
 use Rattle.fills.proofs.Turns.{Homed, to_start, to_next, to_end}
 use Rattle.fills.proofs.Seats.{settleable, settled_home}
 use Rattle.fills.proofs.Written.{filled_meets}
@@ -18,22 +18,22 @@ mark-requires c = c.requires.labels_room
 
 pub loop-k-init : goal.loop-k-init
 loop-k-init c =
-    let homed : let s = c in Homed (pair s.args.species_parents.now s.args.species_taxa.now s.args.gene_parents.now s.args.gene_taxa.now) s.args.places.now c.settle.new.places = settled_home c.requires _ c.settle.ensures in (refl, search rules, to_start c.requires homed c.mark.ensures)
+    let homed : let s = c in Homed (pair_of s.args.trees.now) s.args.places.now c.settle.new.places = settled_home c.requires _ c.settle.ensures in (to_start c.requires homed c.mark.ensures)
 
 pub take-requires : goal.take-requires
 take-requires c =
-    (record { sound = c.requires.sound; inside = search rules; filling = c.loop-k.invariant.2.filling }, c.in_order-ordered.ensures.0)
+    (record { sound = c.requires.sound; inside = search rules; filling = c.loop-k.invariant.filling }, c.in_order-ordered.ensures.0)
 
 pub loop-k-preserved : goal.loop-k-preserved
-loop-k-preserved c = (refl, search rules, to_next _ _ _ _ _ c.loop-k.invariant.2 c.take.ensures)
+loop-k-preserved c = to_next _ _ _ _ _ c.loop-k.invariant c.take.ensures
 
 pub shape_of-places : goal.shape_of-places
 shape_of-places c =
-    let homed : let s = c in Homed (pair s.args.species_parents.now s.args.species_taxa.now s.args.gene_parents.now s.args.gene_taxa.now) s.args.places.now c.settle.new.places = settled_home c.requires _ c.settle.ensures in c.loop-k.invariant.2.places_kept.size ∙ homed.kept.size
+    let homed : let s = c in Homed (pair_of s.args.trees.now) s.args.places.now c.settle.new.places = settled_home c.requires _ c.settle.ensures in c.loop-k.invariant.places_kept.size ∙ homed.kept.size
 
 pub shape_of-labels : goal.shape_of-labels
-shape_of-labels c = c.loop-k.invariant.2.labels_kept.size ∙ c.mark.ensures.kept.size
+shape_of-labels c = c.loop-k.invariant.labels_kept.size ∙ c.mark.ensures.kept.size
 
 pub returns : goal.returns
 returns c =
-    let homed : let s = c in Homed (pair s.args.species_parents.now s.args.species_taxa.now s.args.gene_parents.now s.args.gene_taxa.now) s.args.places.now c.settle.new.places = settled_home c.requires _ c.settle.ensures in filled_meets (to_end c.requires homed c.mark.ensures _ _ _ (search rules) c.loop-k.invariant.2)
+    let homed : let s = c in Homed (pair_of s.args.trees.now) s.args.places.now c.settle.new.places = settled_home c.requires _ c.settle.ensures in filled_meets (to_end c.requires homed c.mark.ensures _ _ _ (search rules) c.loop-k.invariant)

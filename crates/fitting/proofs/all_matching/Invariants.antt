@@ -7,7 +7,4 @@ use Rattle.fitting.specs.Passes.{Matching}
 use Rattle.fitting.proofs.all_matching.Given as goal
 
 abbrev pub invariant-loop-g : goal.invariant-loop-g
-invariant-loop-g l = (l.q ≡ length l.gene_taxa) × (l.g ≤ l.q) × (l.wrong ≤ l.g) × Noted (λ k. Matching (get_or l.labels k 0) (get_or l.gene_taxa k 0)) l.g l.wrong
-
-abbrev pub decreases-loop-g : goal.decreases-loop-g
-decreases-loop-g l = l.q - l.g
+invariant-loop-g l = (l.wrong ≤ l.g) × Noted (λ k. Matching (get_or l.labels k 0) (get_or l.gene_taxa k 0)) l.g l.wrong

@@ -1,10 +1,9 @@
 -- `meets::join`: either way leads to where the two meet. Assumes nothing.
+use mathlib.Core.Path.{◌≡◌, sym, ◌∙◌}
+use lib.Dec.{eqb→eq}
 use Rattle.trees.proofs.Bools.{true_T}
 use Rattle.trees.proofs.Meets.{meet_self}
 use Rattle.meets.proofs.join.Goals as goal
 
-pub returns-then-a-b : goal.returns-then-a-b
-returns-then-a-b c = rw c.if-a-b.true (meet_self c.requires.2)
-
-pub join_ordered-requires : goal.join_ordered-requires
-join_ordered-requires c = let s = c in (s.requires.0, s.requires.1, s.requires.2, s.requires.3 (true_T c.if-ordered.true))
+pub returns-then-eq : goal.returns-then-eq
+returns-then-eq c = let e : c.args.a.0 ≡ c.args.b.0 = eqb→eq _ _ (true_T (sym c.eq.ensures ∙ c.if-eq.true)) in rw e (meet_self c.requires.2)

@@ -1,5 +1,5 @@
 -- `printing::lines_size`: the size so far is that of the lines passed. Assumes nothing.
-use Prim.Native.Nat.{ℕ, ◌-◌, ◌*◌, ◌≤◌}
+use Prim.Native.Nat.{ℕ, ◌*◌, ◌≤◌}
 use mathlib.Core.Path.{◌≡◌}
 use mathlib.Core.List.{List}
 use lib.ListN.{length}
@@ -9,7 +9,4 @@ use Rattle.printing.proofs.lines_size.Given as goal
 
 abbrev pub invariant-loop-i : goal.invariant-loop-i
 invariant-loop-i l =
-    (l.n ≡ length l.places) × (l.i ≤ l.n) × (l.size ≤ 44 * l.i) × ((labels : List ℕ) → l.size ≡ length (lines_to (told l.places labels) l.i))
-
-abbrev pub decreases-loop-i : goal.decreases-loop-i
-decreases-loop-i l = l.n - l.i
+    (l.size ≤ 44 * l.i) × ((labels : List ℕ) → l.size ≡ length (lines_to (told l.places labels) l.i))

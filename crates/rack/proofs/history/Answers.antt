@@ -5,12 +5,12 @@ use lib.ListN.{length}
 use Rattle.rack.proofs.Outcomes.{rack_refused, rack_done}
 use Rattle.rack.proofs.history.Goals as goal
 
-pub returns-in-Done : goal.returns-in-Done
-returns-in-Done c =
+pub returns-in-Ok : goal.returns-in-Ok
+returns-in-Ok c =
     let room : 4 ≤ length c.args.counts.now = omega arith in
-    rack_done _ _ _ _ room _ _ _ _ _ c.least_history-answer.ensures c.in-Done.is c.put_counts.ensures
+    rack_done _ _ _ _ room _ _ _ _ _ c.least_history.ensures c.in-Ok.is c.put_counts.ensures
 
-pub returns-in-Refused : goal.returns-in-Refused
-returns-in-Refused c =
+pub returns-in-Err : goal.returns-in-Err
+returns-in-Err c =
     let room : 4 ≤ length c.args.counts.now = omega arith in
-    rack_refused _ _ _ _ room _ _ _ _ c.least_history-answer.ensures c.in-Refused.is
+    rw c.from.ensures (rack_refused _ _ _ _ room _ _ _ _ c.least_history.ensures c.in-Err.is)

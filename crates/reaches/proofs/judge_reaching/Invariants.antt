@@ -1,5 +1,5 @@
 -- `reaches::judge_reaching`: the nodes passed reach the root. Assumes nothing.
-use Prim.Native.Nat.{ℕ, ◌-◌, ◌≤◌, ◌<◌}
+use Prim.Native.Nat.{ℕ, ◌<◌}
 use mathlib.Core.Path.{◌≡◌}
 use lib.ListN.{length}
 use lib.Dec.{T}
@@ -8,7 +8,4 @@ use Rattle.reaches.specs.Knowing.{Knowing}
 use Rattle.reaches.proofs.judge_reaching.Given as goal
 
 abbrev pub invariant-loop-i : goal.invariant-loop-i
-invariant-loop-i l = (l.n ≡ length l.parents) × (l.i ≤ l.n) × Knowing l.parents l.marks × (length l.initial.marks ≡ 512) × ((k : ℕ) → k < l.i → T (reaching l.parents k))
-
-abbrev pub decreases-loop-i : goal.decreases-loop-i
-decreases-loop-i l = l.n - l.i
+invariant-loop-i l = (l.n ≡ length l.parents) × Knowing l.parents l.marks × ((k : ℕ) → k < l.i → T (reaching l.parents k))

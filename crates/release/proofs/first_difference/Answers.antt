@@ -1,7 +1,9 @@
 -- `first_difference` meets its contract: where both tables are the same no entry differs. Assumes nothing.
+use Rattle.std.proofs.Common.{◌≡◌, ◌*◌, length, arith}
 use Rattle.release.proofs.Comparing.{agree_all}
 use Rattle.release.proofs.first_difference.Goals as goal
 
-pub returns-then-same_longs : goal.returns-then-same_longs
-returns-then-same_longs c =
-    agree_all c.args.image.now c.args.i _ _ c.requires.even (c.same_words.ensures c.if-same_words.true) (c.same_longs.ensures c.if-same_longs.true)
+pub returns-then-same-2 : goal.returns-then-same-2
+returns-then-same-2 c =
+    let one : 1 * length c.args.species.now.parents.now ≡ length c.args.species.now.parents.now = omega arith in
+    agree_all c.args.image.now c.args.i _ _ c.requires.even (rw one at (c.same.ensures c.if-same.true)) (c.same-then-same.ensures c.if-same-2.true)

@@ -34,16 +34,16 @@ next-b-requires c =
 
 pub loop-v-preserved : goal.loop-v-preserved
 loop-v-preserved c =
-    let says : agree (content c.args.image.now) c.args.i c.args.parents.now c.args.taxa.now c.loop-v.v ≡ c.same_at.result = agree_at _ c.args.i c.args.parents.now c.args.taxa.now c.loop-v.v c.loop-v.a c.loop-v.b _ c.requires c.loop-v-test.true c.loop-v.invariant.0 c.loop-v.invariant.1 c.same_at.ensures in (
+    let says : agree (content c.args.image.now) c.args.i c.args.species.now.parents.now c.args.species.now.taxa.now c.loop-v.v ≡ c.same_at.result = agree_at _ c.args.i c.args.species.now.parents.now c.args.species.now.taxa.now c.loop-v.v c.loop-v.a c.loop-v.b _ c.requires c.loop-v-test.true c.loop-v.invariant.0 c.loop-v.invariant.1 c.same_at.ensures in (
       word_behind c.args.i c.loop-v.v _ _ c.loop-v.invariant.0 c.next-a.ensures,
-      long_behind (c.args.i + length c.args.parents.now) c.loop-v.v _ _ _ c.loop-v.invariant.1 c.next.ensures c.next-b.ensures,
-      passed_more _ _ c.loop-v.v c.loop-v.invariant.2 c.loop-v-test.true (true_T (says ∙ c.if-same_at.true)),
+      long_behind (c.args.i + length c.args.species.now.parents.now) c.loop-v.v _ _ _ c.loop-v.invariant.1 c.next.ensures c.next-b.ensures,
+      passed_more _ _ c.loop-v.v c.loop-v.invariant.2 c.loop-v-test.true (true_T (says ∙ c.if-not-same_at.false)),
     )
 
-pub returns-else-same_at : goal.returns-else-same_at
-returns-else-same_at c =
-    let says : agree (content c.args.image.now) c.args.i c.args.parents.now c.args.taxa.now c.loop-v.v ≡ c.same_at.result = agree_at _ c.args.i c.args.parents.now c.args.taxa.now c.loop-v.v c.loop-v.a c.loop-v.b _ c.requires c.loop-v-test.true c.loop-v.invariant.0 c.loop-v.invariant.1 c.same_at.ensures in
-    passed_spot _ _ c.loop-v.v c.loop-v.invariant.2 c.loop-v-test.true (says ∙ c.if-same_at.false)
+pub returns-then-not-same_at : goal.returns-then-not-same_at
+returns-then-not-same_at c =
+    let says : agree (content c.args.image.now) c.args.i c.args.species.now.parents.now c.args.species.now.taxa.now c.loop-v.v ≡ c.same_at.result = agree_at _ c.args.i c.args.species.now.parents.now c.args.species.now.taxa.now c.loop-v.v c.loop-v.a c.loop-v.b _ c.requires c.loop-v-test.true c.loop-v.invariant.0 c.loop-v.invariant.1 c.same_at.ensures in
+    passed_spot _ _ c.loop-v.v c.loop-v.invariant.2 c.loop-v-test.true (says ∙ c.if-not-same_at.true)
 
 pub returns : goal.returns
 returns c = passed_nowhere _ _ c.loop-v.v c.loop-v.invariant.2 c.loop-v-test.false

@@ -1,6 +1,6 @@
 -- `lowest_difference` meets its contract. The loop's invariant: `a` and `b` are where the entries v of the two tables stand, and all entries before are alike.
--- The measure is what is left of the tables. Assumes nothing.
-use Prim.Native.Nat.{◌+◌, ◌*◌, ◌-◌}
+-- Assumes nothing.
+use Prim.Native.Nat.{◌+◌, ◌*◌}
 use mathlib.Core.Path.{◌≡◌}
 use lib.ListN.{length}
 use Rattle.blocks.specs.Blocks.{content}
@@ -9,7 +9,4 @@ use Rattle.blocks.proofs.Searches.{Passed}
 use Rattle.release.proofs.lowest_difference.Given as goal
 
 abbrev pub invariant-loop-v : goal.invariant-loop-v
-invariant-loop-v l = (l.a ≡ offset (l.i + l.v)) × (l.b ≡ offset (l.i + length l.parents + 2 * l.v)) × Passed (agree (content l.image) l.i l.parents l.taxa) (length l.parents) l.v
-
-abbrev pub decreases-loop-v : goal.decreases-loop-v
-decreases-loop-v l = length l.parents - l.v
+invariant-loop-v l = (l.a ≡ offset (l.i + l.v)) × (l.b ≡ offset (l.i + length l.species.parents.now + 2 * l.v)) × Passed (agree (content l.image) l.i l.species.parents.now l.species.taxa.now) (length l.species.parents.now) l.v

@@ -20,14 +20,14 @@ loop-i-preserved c =
       search rules,
       search rules,
       c.or_root-seen.ensures ∙ seen_more _ _ (search rules) _ l.loop-i.invariant.2,
-      below_more _ _ l.loop-i.invariant.3 (true_T (sym (p.parented_at.ensures ∙ parented_by _ _ (search rules) _ l.loop-i.invariant.2) ∙ c.if-parented_at.true)),
+      below_more _ _ l.loop-i.invariant.3 (true_T (sym (p.parented_at.ensures ∙ parented_by _ _ (search rules) _ l.loop-i.invariant.2) ∙ c.if-not-parented_at.false)),
     )
 
-pub returns-else-parented_at : goal.returns-else-parented_at
-returns-else-parented_at c =
+pub returns-then-not-parented_at : goal.returns-then-not-parented_at
+returns-then-not-parented_at c =
     let p = c in
     let l = p in
-    ap refused_by c.refuse.ensures ∙ sym (parents_refused _ _ _ (search rules) (sym (p.parented_at.ensures ∙ parented_by _ _ (search rules) _ l.loop-i.invariant.2) ∙ c.if-parented_at.false) l.loop-i.invariant.3)
+    ap refused_by c.refuse.ensures ∙ sym (parents_refused _ _ _ (search rules) (sym (p.parented_at.ensures ∙ parented_by _ _ (search rules) _ l.loop-i.invariant.2) ∙ c.if-not-parented_at.true) l.loop-i.invariant.3)
 
 pub returns-then-seen : goal.returns-then-seen
 returns-then-seen c = let l = c in sym (parents_passed _ _ (λ k h. l.loop-i.invariant.3 k (search rules)) (ap (λ n. any (is_root l.args.parents.now) (range 0 n)) (search rules) ∙ sym l.loop-i.invariant.2 ∙ c.if-seen.true))

@@ -5,13 +5,13 @@ use borrow.Author.Rules.{rules}
 use Rattle.rounds.proofs.all_apart.Goals as goal
 
 pub loop-from-init : goal.loop-from-init
-loop-from-init c = (search rules, search rules, search rules, search rules, unlike_none _)
+loop-from-init c = (search rules, search rules, unlike_none _)
 
 pub loop-from-preserved : goal.loop-from-preserved
-loop-from-preserved c = (search rules, search rules, search rules, search rules, unlike_round _ _ _ _ (search rules) (c.round_apart.ensures (true_T c.if-round_apart.true)) c.loop-from.invariant.4)
+loop-from-preserved c = (search rules, search rules, unlike_round _ _ _ _ (search rules) (c.round_apart.ensures (true_T c.if-not-round_apart.false)) c.loop-from.invariant.2)
 
-pub returns-else-round_apart : goal.returns-else-round_apart
-returns-else-round_apart c = λ t. absurd t
+pub returns-then-not-round_apart : goal.returns-then-not-round_apart
+returns-then-not-round_apart c = λ t. absurd t
 
 pub returns : goal.returns
-returns c = λ t. unlike_fresh _ _ (search rules) c.loop-from.invariant.4
+returns c = λ t. unlike_fresh _ _ (search rules) c.loop-from.invariant.2

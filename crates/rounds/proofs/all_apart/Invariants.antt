@@ -7,7 +7,7 @@ use Rattle.rounds.proofs.all_apart.Given as goal
 
 abbrev pub invariant-loop-from : goal.invariant-loop-from
 invariant-loop-from l =
-    (l.n ≡ length l.species_taxa) × (l.from ≤ l.n) × (length l.hints ≡ 512) × (length l.initial.hints ≡ 512) × Unlike l.species_taxa l.from
+    (l.n ≡ length l.species_taxa) × (l.from ≤ l.n) × Unlike l.species_taxa l.from
 
 abbrev pub decreases-loop-from : goal.decreases-loop-from
 decreases-loop-from l = l.n - l.from

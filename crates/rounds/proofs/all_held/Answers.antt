@@ -8,13 +8,13 @@ use borrow.Author.Rules.{rules}
 use Rattle.rounds.proofs.all_held.Goals as goal
 
 pub loop-from-init : goal.loop-from-init
-loop-from-init c = (search rules, search rules, search rules, search rules, search rules, omega arith)
+loop-from-init c = (search rules, search rules, search rules, omega arith)
 
 pub enter-to-requires : goal.enter-to-requires
-enter-to-requires c = (search rules, search rules, c.requires.0.few)
+enter-to-requires c = (search rules, c.requires.few)
 
 pub count_held-count-requires : goal.count_held-count-requires
-count_held-count-requires c = (search rules, search rules, c.requires.0)
+count_held-count-requires c = (search rules, c.requires)
 
 pub overflow_add-count : goal.overflow_add-count
 overflow_add-count c =
@@ -22,8 +22,8 @@ overflow_add-count c =
     omega (arith, c.count_held-count.ensures, held_few s.args.species_taxa.now s.args.gene_taxa.now c.enter-to.result (length s.args.gene_taxa.now))
 
 pub loop-from-preserved : goal.loop-from-preserved
-loop-from-preserved c = (search rules, search rules, search rules, search rules, search rules, omega (arith, c.count_held-count.ensures))
+loop-from-preserved c = (search rules, search rules, search rules, omega (arith, c.count_held-count.ensures))
 
 pub returns : goal.returns
 returns c = λ t. let e : c.loop-from.from ≡ length c.args.species_taxa.now = search rules in
-    held_all _ _ _ (eqb→eq _ _ t ∙ c.loop-from.invariant.4) (rw e at c.loop-from.invariant.5)
+    held_all _ _ _ (eqb→eq _ _ t ∙ c.loop-from.invariant.2) (rw e at c.loop-from.invariant.3)

@@ -7,7 +7,7 @@ use Rattle.rounds.proofs.all_held.Given as goal
 
 abbrev pub invariant-loop-from : goal.invariant-loop-from
 invariant-loop-from l =
-    (l.n ≡ length l.species_taxa) × (l.from ≤ l.n) × (length l.hints ≡ 512) × (length l.initial.hints ≡ 512) × (l.leaves ≡ leaves_to l.gene_taxa (length l.gene_taxa))
+    (l.n ≡ length l.species_taxa) × (l.from ≤ l.n) × (l.leaves ≡ leaves_to l.gene_taxa (length l.gene_taxa))
     × (l.count ≤ held_to l.species_taxa l.gene_taxa l.from (length l.gene_taxa))
 
 abbrev pub decreases-loop-from : goal.decreases-loop-from

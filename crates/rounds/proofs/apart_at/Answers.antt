@@ -6,8 +6,8 @@ use Rattle.rounds.proofs.apart_at.Goals as goal
 pub returns-then-taxon-eq0 : goal.returns-then-taxon-eq0
 returns-then-taxon-eq0 c = λ t. apart_inner _ _ _ _ c.if-taxon-eq0.true
 
-pub returns-in-At : goal.returns-in-At
-returns-in-At c = λ t. apart_found _ _ _ _ c.ask-found.result _ c.ask-found.ensures c.in-At.is (eqb→eq _ _ t)
+pub returns-in-Some : goal.returns-in-Some
+returns-in-Some c = λ t. apart_found _ _ _ _ c.ask.result _ c.ask.ensures c.in-Some.is (eqb→eq _ _ (rw c.eq.ensures at t))
 
-pub returns-in-Nowhere : goal.returns-in-Nowhere
-returns-in-Nowhere c = λ t. apart_missed _ _ _ _ c.ask-found.result c.ask-found.ensures c.in-Nowhere.is (leb→le _ _ t)
+pub returns-in-None : goal.returns-in-None
+returns-in-None c = λ t. apart_missed _ _ _ _ c.ask.result c.ask.ensures c.in-None.is (leb→le _ _ t)

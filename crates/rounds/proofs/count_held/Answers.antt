@@ -2,23 +2,27 @@
 use native.Mathlib.Omega.{arith}
 use mathlib.Core.Path.{◌≡◌}
 use lib.ListN.{length}
-use Rattle.trees.specs.Lists.{range, total}
+use Rattle.trees.specs.Lists.{range, total, one}
+use mathlib.Core.Bool.{true, false}
 use Rattle.rounds.proofs.Held.{round_more}
 use borrow.Author.Rules.{rules}
+use Rattle.rounds.proofs.count_held.Goals.{then-held_at, else-held_at}
 use Rattle.rounds.proofs.count_held.Goals as goal
 
 pub loop-i-init : goal.loop-i-init
 unfolding range total
-loop-i-init c = (search rules, search rules, search rules, omega arith)
+loop-i-init c = (search rules, omega arith)
 
-pub held_at-count-requires : goal.held_at-count-requires
-held_at-count-requires c = let s = c in (s.requires.0, s.requires.1, search rules, s.requires.2)
-
-pub overflow_add-count : goal.overflow_add-count
-overflow_add-count c = omega (arith, c.held_at-count.ensures.0)
+pub held_at-requires : goal.held_at-requires
+held_at-requires c = (c.requires.0, search rules, c.requires.1)
 
 pub loop-i-preserved : goal.loop-i-preserved
-loop-i-preserved c = (search rules, search rules, omega (arith, c.held_at-count.ensures.0), round_more _ _ _ _ _ _ _ c.held_at-count.ensures.1 c.loop-i.invariant.3)
+unfolding one
+loop-i-preserved c =
+    elim c.if-held_at.branch [
+      | then-held_at w ↦ round_more _ _ _ _ _ _ _ true w.count-is (rw w.if-held_at.true at c.held_at.ensures) c.loop-i.invariant
+      | else-held_at w ↦ round_more _ _ _ _ _ _ _ false (omega (arith, w.count-is)) (rw w.if-held_at.false at c.held_at.ensures) c.loop-i.invariant
+    ]
 
 pub returns : goal.returns
-returns c = let e : c.loop-i.i ≡ length c.args.gene_taxa.now = search rules in rw e at c.loop-i.invariant.3
+returns c = let e : c.loop-i.i ≡ length c.args.gene_taxa.now = search rules in rw e at c.loop-i.invariant.1

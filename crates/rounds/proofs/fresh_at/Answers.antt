@@ -1,10 +1,10 @@
 -- `rounds::fresh_at`. Assumes nothing.
-use mathlib.Core.Path.{sym, ap, ◌∙◌}
+use mathlib.Core.Path.{sym, ◌∙◌}
+use Rattle.trees.proofs.Bools.{not_swap}
 use lib.ListN.{get_or}
 use lib.Seq.{length-take-le}
 use borrow.Author.Tests.{eq-eqb}
 use Rattle.taxa.specs.Searches.{fresh_taxon}
-use Rattle.taxa.proofs.Chains.{missed}
 use Rattle.rounds.proofs.Repeats.{scan_fresh}
 use borrow.Author.Rules.{rules}
 use Rattle.rounds.proofs.fresh_at.Goals as goal
@@ -16,8 +16,5 @@ returns-then-taxon-eq0 c = rw (eq-eqb (get_or c.args.species_taxa.now c.args.nod
 pub slice_bounds-species_of-end : goal.slice_bounds-species_of-end
 slice_bounds-species_of-end c = sym (length-take-le _ _ (search rules))
 
-pub returns-in_default : goal.returns-in_default
-returns-in_default c = sym (scan_fresh _ _ (search rules) c.if-taxon-eq0.false c.species_of-found.result c.species_of-found.ensures ∙ ap missed c.in_default.is)
-
-pub returns : goal.returns
-returns c = sym (scan_fresh _ _ (search rules) c.if-taxon-eq0.false c.species_of-found.result c.species_of-found.ensures ∙ ap missed c.in-Nowhere.is)
+pub returns-else-taxon-eq0 : goal.returns-else-taxon-eq0
+returns-else-taxon-eq0 c = not_swap _ _ c.is_none.ensures ∙ sym (scan_fresh _ _ (search rules) c.if-taxon-eq0.false c.species_of.result c.species_of.ensures)

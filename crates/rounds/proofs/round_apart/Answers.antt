@@ -5,13 +5,13 @@ use borrow.Author.Rules.{rules}
 use Rattle.rounds.proofs.round_apart.Goals as goal
 
 pub loop-j-init : goal.loop-j-init
-loop-j-init c = (search rules, search rules, from_none _ _)
+loop-j-init c = from_none _ _
 
 pub loop-j-preserved : goal.loop-j-preserved
-loop-j-preserved c = let l = c.loop-j in (search rules, search rules, from_more _ _ _ l.invariant.2 (c.apart_at.ensures (true_T c.if-apart_at.true)))
+loop-j-preserved c = from_more _ _ _ c.loop-j.invariant (c.apart_at.ensures (true_T c.if-not-apart_at.false))
 
-pub returns-else-apart_at : goal.returns-else-apart_at
-returns-else-apart_at c = λ t. absurd t
+pub returns-then-not-apart_at : goal.returns-then-not-apart_at
+returns-then-not-apart_at c = λ t. absurd t
 
 pub returns : goal.returns
-returns c = λ t j a h. c.loop-j.invariant.2 j a (search rules)
+returns c = λ t j a h. c.loop-j.invariant j a (search rules)

@@ -1,21 +1,22 @@
 -- `shapes::judge_shape`: rules 2 and 38, and then 3 and 4. Assumes nothing.
-use mathlib.Core.Path.{sym, ap, ◌∙◌}
-use Rattle.trees.specs.Answers.{judged_of}
+use mathlib.Core.Path.{sym, ◌∙◌}
 use Rattle.trees.proofs.Soundness.{sized_is}
 use Rattle.shapes.proofs.Shapes.{shape_refused, shape_left}
+use Rattle.trees.proofs.Answers.{refused_on}
+use Rattle.std.proofs.Common.{rules}
 use Rattle.shapes.proofs.judge_shape.Goals as goal
 
-pub judge_roots-rooted-requires : goal.judge_roots-rooted-requires
-judge_roots-rooted-requires c = let z = sized_is _ _ c.requires in (z.some, z.few)
+pub judge_roots-requires : goal.judge_roots-requires
+judge_roots-requires c = let z = sized_is _ _ c.requires in (z.some, z.few)
 
-pub returns-in_default : goal.returns-in_default
-returns-in_default c = let q = ap judged_of c.in_default.is in q ∙ sym (shape_refused _ _ _ _ _ _ (sym c.judge_roots-rooted.ensures ∙ q))
+pub returns-in_err-judge_roots : goal.returns-in_err-judge_roots
+returns-in_err-judge_roots c = refused_on _ c.from_residual.ensures.1 (sym (shape_refused _ _ _ _ _ _ (sym c.in_err-judge_roots.ensures)))
 
 pub returns-then-parents-le255 : goal.returns-then-parents-le255
-returns-then-parents-le255 c = c.judge_small.ensures ∙ sym (shape_left _ _ _ (sym c.judge_roots-rooted.ensures ∙ ap judged_of c.in-Sound.is))
+returns-then-parents-le255 c = c.judge_in.ensures ∙ sym (shape_left _ _ _ (sym c.in_ok-judge_roots.ensures))
 
-pub judge_large-requires : goal.judge_large-requires
-judge_large-requires c = let s = c in (s.requires, (sized_is _ _ s.requires).few)
+pub judge_in-requires-2 : goal.judge_in-requires-2
+judge_in-requires-2 c = (c.requires, (sized_is _ _ c.requires).few, search rules)
 
 pub returns : goal.returns
-returns c = c.judge_large.ensures ∙ sym (shape_left _ _ _ (sym c.judge_roots-rooted.ensures ∙ ap judged_of c.in-Sound.is))
+returns c = c.judge_in-2.ensures ∙ sym (shape_left _ _ _ (sym c.in_ok-judge_roots.ensures))

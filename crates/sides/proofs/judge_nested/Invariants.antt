@@ -6,7 +6,4 @@ use Rattle.sides.proofs.Steps.{NestedTo}
 use Rattle.sides.proofs.judge_nested.Given as goal
 
 abbrev pub invariant-loop-c : goal.invariant-loop-c
-invariant-loop-c l = (l.q ≡ length l.gene_parents) × NestedTo l.species_parents l.gene_parents l.places l.c l.sides × (length l.sides ≡ length l.initial.sides)
-
-abbrev pub decreases-loop-c : goal.decreases-loop-c
-decreases-loop-c l = l.q - l.c
+invariant-loop-c l = NestedTo l.species_parents l.gene_parents l.places l.c l.sides

@@ -1,12 +1,11 @@
--- `add_up` meets its contract. The loop's invariant: the bytes that are left lead from the sums so far to the sums of all.
--- The measure is what is left of the 508 bytes. Assumes nothing.
-use Rattle.std.proofs.Common.{◌≡◌, ◌-◌, ◌%◌, ◌≤◌, take}
+-- `add_up` meets its contract. The loops' invariant: the sums so far lead over the bytes that are left to the sums of all. Assumes nothing.
+use Rattle.std.proofs.Common.{[], drop}
 use Rattle.blocks.specs.Answers.{sums_of}
-use Rattle.blocks.proofs.Sums.{SumsAt}
+use Rattle.blocks.proofs.Sums.{Adding}
 use Rattle.blocks.proofs.check.add_up.Given as goal
 
-abbrev pub invariant-loop-i : goal.invariant-loop-i
-invariant-loop-i l = (l.i ≤ 508) × (l.i % 4 ≡ 0) × SumsAt (take 508 l.b) l.i (sums_of l.s)
+abbrev pub invariant-loop-four : goal.invariant-loop-four
+invariant-loop-four l = Adding l.b [] l.four-iterator.rest.now l.four-iterator.size (sums_of l.s)
 
-abbrev pub decreases-loop-i : goal.decreases-loop-i
-decreases-loop-i l = 508 - l.i
+abbrev pub invariant-loop-byte : goal.invariant-loop-byte
+invariant-loop-byte l = Adding l.b (drop l.byte-index l.four) l.four-iterator.rest.now l.four-iterator.size (sums_of l.s)

@@ -6,7 +6,4 @@ use Rattle.fills.specs.Filling.{Kept}
 use Rattle.fills.proofs.settling.ask_all.Given as goal
 
 abbrev pub invariant-loop-g : goal.invariant-loop-g
-invariant-loop-g l = (l.q ≡ length l.gene_taxa) × (l.g ≤ l.q) × Kept (length l.gene_taxa) l.initial.places l.places
-
-abbrev pub decreases-loop-g : goal.decreases-loop-g
-decreases-loop-g l = l.q - l.g
+invariant-loop-g l = Kept (length l.gene_taxa) l.initial.places l.places

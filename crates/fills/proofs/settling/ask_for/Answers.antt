@@ -15,11 +15,11 @@ overflow_cast-place c = omega (arith, c.type_inv.places c.args.node.0)
 pub returns-then-carries : goal.returns-then-carries
 returns-then-carries c = kept_self _ _
 
+pub overflow_cast-places : goal.overflow_cast-places
+overflow_cast-places c = omega (arith, (ask_at c.args.species_taxa.now c.args.hints.now _ _ (sym c.ask.ensures ∙ c.in-Some.is)).0, c.requires.1.few)
+
+pub returns-in-Some : goal.returns-in-Some
+returns-in-Some c = kept_set _ _ c.requires.0 (kept_self (length c.args.gene_taxa.now) c.args.places.now)
+
 pub returns-in_default : goal.returns-in_default
 returns-in_default c = kept_self _ _
-
-pub overflow_cast-places : goal.overflow_cast-places
-overflow_cast-places c = omega (arith, (ask_at c.args.species_taxa.now c.args.hints.now _ _ (sym c.ask-found.ensures ∙ c.in-At.is)).0, c.requires.1.few)
-
-pub returns : goal.returns
-returns c = kept_set _ _ c.requires.0 (kept_self (length c.args.gene_taxa.now) c.args.places.now)

@@ -6,7 +6,4 @@ use Rattle.fills.specs.Settling.{Settled}
 use Rattle.fills.proofs.settling.settle.Given as goal
 
 abbrev pub invariant-loop-g : goal.invariant-loop-g
-invariant-loop-g l = (l.q ≡ length l.gene_taxa) × (l.g ≤ l.q) × Settled l.species_taxa l.gene_taxa l.g l.initial.places l.places
-
-abbrev pub decreases-loop-g : goal.decreases-loop-g
-decreases-loop-g l = l.q - l.g
+invariant-loop-g l = Settled l.species_taxa l.gene_taxa l.g l.initial.places l.places

@@ -1,5 +1,4 @@
--- `seal_all` meets its contract. The loop's invariant: the first k blocks are sealed, the rest is as it was.
--- The measure is what is left of the blocks. Assumes nothing.
+-- `seal_all` meets its contract. Assumes nothing.
 use Rattle.puts.proofs.Sealing.{sealing_start, sealing_more}
 use Rattle.puts.proofs.seal.seal_all.Goals as goal
 

@@ -1,16 +1,9 @@
--- `zeros` meets its contract. The loop's invariant: what was noted and the bytes that are left decide.
--- The measure is what is left of the bytes. Assumes nothing.
-use Rattle.words.proofs.Pieces.{tested_zero, tested_wrong, tested_end}
+-- `zeros` meets its contract. Assumes nothing.
+use Rattle.words.proofs.Pieces.{tested_more, tested_end}
 use Rattle.words.proofs.piece.zeros.Goals as goal
-use Rattle.words.proofs.piece.zeros.Goals.{then-bytes-k-eq0, else-bytes-k-eq0}
 
-pub loop-k-preserved : goal.loop-k-preserved
-loop-k-preserved c =
-    let p = c.loop-k in
-    elim c.if-bytes-k-eq0.branch [
-      | then-bytes-k-eq0 w ↦ tested_zero _ p.wrong p.k p.invariant _ c.loop-k-test.true w.if-bytes-k-eq0.true w.wrong-is
-      | else-bytes-k-eq0 w ↦ tested_wrong _ p.wrong p.k p.invariant _ c.loop-k-test.true w.if-bytes-k-eq0.false w.wrong-is
-    ]
+pub loop-b-preserved : goal.loop-b-preserved
+loop-b-preserved c = tested_more _ _ c.loop-b.b-index c.loop-b-test.true c.loop-b.invariant
 
 pub returns : goal.returns
-returns c = tested_end _ c.loop-k.wrong c.loop-k.k c.loop-k.invariant c.loop-k-test.false
+returns c = tested_end _ _ c.loop-b.b-index c.loop-b-test.false c.loop-b.invariant

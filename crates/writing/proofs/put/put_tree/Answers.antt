@@ -4,4 +4,4 @@ use Rattle.writing.proofs.Putting.{puts_on}
 use Rattle.writing.proofs.put.put_tree.Goals as goal
 
 pub returns : goal.returns
-returns c = puts_on _ _ _ _ _ _ _ c.put_words.ensures refl c.put_longs.ensures
+returns c = puts_on _ _ _ _ _ _ _ c.put.ensures refl c.put-2.ensures

@@ -1,9 +1,0 @@
--- `dialogue::scan_on`: the loop ends. Assumes nothing.
-use Prim.Native.Nat.{◌≤◌}
-use Rattle.dialogue.proofs.input.scan_on.Given as goal
-
-abbrev pub invariant-loop-left : goal.invariant-loop-left
-invariant-loop-left l = l.left ≤ l.initial.left
-
-abbrev pub decreases-loop-left : goal.decreases-loop-left
-decreases-loop-left l = l.left

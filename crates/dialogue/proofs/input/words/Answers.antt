@@ -1,7 +1,0 @@
--- `dialogue::words`: no index leaves its table. Assumes nothing.
-use borrow.Author.Rules.{rules}
-use Rattle.io.proofs.Counting.{prefix_len_of_le}
-use Rattle.dialogue.proofs.input.words.Goals as goal
-
-pub returns : goal.returns
-returns c = prefix_len_of_le _ _ (search rules)
