@@ -47,7 +47,9 @@ pub fn count_climbs(trees: &Trees<'_>, places: &[u16], labels: &[u16]) -> Tally
     ensures { CountClimbsMeets (pair_of trees.now) places.now labels.now result }
 {
     let gene_parents = trees.genes.parents;
-    counts::add_up(&labels[..gene_parents.len()], |node| {
+    // the answer has a name, so that edits which change it keep the names that the proof goes by
+    let tally = counts::add_up(&labels[..gene_parents.len()], |node| {
         steps_of(trees.species.parents, gene_parents, places, node)
-    })
+    });
+    tally
 }

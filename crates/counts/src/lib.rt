@@ -7,8 +7,8 @@ ghost use Rattle.std.specs.Prelude.{◌≡◌, ℕ, ◌<◌, length, get_or};
 ghost use Rattle.trees.specs.Tables.{pair_of};
 ghost use Rattle.counts.specs.Tallies.{Story};
 ghost use Rattle.counts.specs.Sums.{steps_of, Step};
-ghost use Rattle.counts.specs.Adding.{Addable, Added};
-ghost use Rattle.counts.specs.Promises.{CountHistoryMeets};
+ghost use Rattle.counts.specs.Adding.{Addable};
+ghost use Rattle.counts.specs.Promises.{AddUpMeets, CountHistoryMeets};
 
 use trees::{GeneNode, SpeciesNode, Trees};
 
@@ -58,7 +58,7 @@ fn steps_of(depths: &[u16], gene_parents: &[u16], places: &[u16], node: GeneNode
 // at the root. The losses: each of the two edges down from a speciation counts one less than its steps.
 pub fn add_up<F: Fn(GeneNode) -> u32>(labels: &[u16], steps: F) -> Tally
     requires { (s : ℕ → ℕ) × Addable (F.pre steps) (F.post steps) labels.now s }
-    ensures { (s : ℕ → ℕ) → Addable (F.pre steps) (F.post steps) labels.now s → Added labels.now s result }
+    ensures { AddUpMeets (F.pre steps) (F.post steps) labels.now result }
 {
     let mut duplications: u32 = 0;
     let mut speciations: u32 = 0;

@@ -1,7 +1,7 @@
 // What is read: decimal numbers, separated by spaces or line feeds, and tables, a table being its length and then its entries.
 ghost use Rattle.std.specs.Prelude.{◌≤◌, ◌≡◌};
 ghost use Rattle.dialogue.specs.Counts.{IsCount};
-ghost use Rattle.dialogue.specs.Spoiled.{NoneRead};
+ghost use Rattle.dialogue.specs.Spoiled.{NoneRead, ZeroRead, EmptyRead};
 
 use std::num::TryFromIntError;
 use talks::{Memory, Talk, spoil};
@@ -144,13 +144,16 @@ pub fn number_if_any(memory: &mut Memory, talk: Talk) -> Option<Found>
 }
 
 // The next number; the end spoils the talk.
-pub fn number(memory: &mut Memory, talk: Talk) -> Found {
+pub fn number(memory: &mut Memory, talk: Talk) -> Found
+    ensures { ZeroRead talk result }
+{
     number_if_any(memory, talk).unwrap_or(spoiled(talk))
 }
 
 // A number of at most `most`; another one spoils the talk, as the end does.
 pub fn small(memory: &mut Memory, talk: Talk, most: u64) -> Found
-    ensures { result.value ≤ most }
+    ensures most { result.value ≤ most }
+    ensures spoiled { ZeroRead talk result }
 {
     let found = number(memory, talk);
     if found.value <= most {
@@ -165,7 +168,8 @@ pub fn read_table<T: Copy + TryFrom<u64, Error = TryFromIntError>>(
     talk: Talk,
     out: &mut [T],
 ) -> Table
-    ensures { IsCount result.count out.new }
+    ensures count { IsCount result.count out.new }
+    ensures spoiled { EmptyRead talk result }
 {
     let head = small(memory, talk, out.len() as u64);
     let count = head.value as usize;

@@ -1,6 +1,7 @@
 // The pairs of tables that requests are made of, in the memory that a request has for them: a tree's two tables, a history's two, and
 // the two byte tables of a C call.
 ghost use Rattle.dialogue.specs.Counts.{IsCount};
+ghost use Rattle.dialogue.specs.Spoiled.{EmptiesRead};
 
 use crate::input::read_table;
 use std::num::TryFromIntError;
@@ -26,6 +27,7 @@ where
     B: Copy + TryFrom<u64, Error = TryFromIntError>,
     ensures prefix_len { IsCount result.first first.new }
     ensures prefix_len_2 { IsCount result.second second.new }
+    ensures spoiled { EmptiesRead talk result }
 {
     let a = read_table(memory, talk, first);
     let b = read_table(memory, a.talk, second);

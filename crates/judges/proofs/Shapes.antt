@@ -1,7 +1,9 @@
 -- What each step of a judge means for its ruling. Assumes nothing.
 use Prim.Native.Nat.{ℕ}
 use mathlib.Core.Path.{◌≡◌, refl, sym, ap, ◌∙◌}
-use mathlib.Core.Bool.{false}
+use mathlib.Core.Bool.{false, true}
+use Rattle.std.specs.Prelude.{is_err, Ok, Err}
+use Rattle.trees.specs.Answers.{Judged, judged_of}
 use mathlib.Core.List.{List, [], ◌∷◌, ◌++◌}
 use lib.ListN.{length}
 use lib.Dec.{T}
@@ -29,6 +31,10 @@ module _ (sp st : List ℕ) where
 
     pub species_shape : (n t v : ℕ) → verdict (shape_rules 1 sp st) ≡ refused n t v → verdict (species_rules sp st) ≡ refused n t v
     species_shape n t v e = past_1 ∙ ruling_stays (shape_rules 1 sp st) _ fine fine n t v e
+
+    pub species_stopped : (r : Judged) → judged_of r ≡ verdict (shape_rules 1 sp st) → is_err r ≡ true → judged_of r ≡ verdict (species_rules sp st)
+    species_stopped (Err f) e h = sym (species_shape f.number f.tree f.place (sym e))
+    species_stopped (Ok x) e h = absurd (cc)
 
     module _ (a : verdict (shape_rules 1 sp st) ≡ accepted fine) where
       passed : Every Passes (shape_rules 1 sp st)

@@ -1,4 +1,4 @@
--- What the judges promise: the first rule of 01's order that fails, at its lowest node, else `Sound`.
+-- What the judges promise: the first rule of 01's order that fails, at its lowest node, else `Ok`.
 --   JudgeSpeciesMeets sp st r <-> of the species rules 1, 2, 38, 3, 4 and 5
 --   JudgeFamilyMeets w r      <-> of the gene rules 2, 38, 3, 4 and 6
 --   JudgePairMeets w r        <-> of the species rules, then the gene rules 1, 2, 38, 3, 4, 6

@@ -28,13 +28,16 @@ fn sized_tables(tables: &Tree<'_>) -> bool
 
 // Species parents and taxa, with a lent table of 512 entries that may hold anything before and after: `Ok`, or the first of
 // refusals 1, 2, 38, 3, 4 and 5.
+#[tactic(auto, using(crate::proofs::Shapes::species_stopped))]
 fn judge_species_in(species: &Tree<'_>, table: &mut [u16; 512]) -> Result<(), Refusal>
     ensures { JudgeSpeciesMeets species.now.parents.now species.now.taxa.now result }
 {
     if !sized_tables(species) {
         return Err(refuse(1, 1, 0));
     }
-    bits::judge_shape(1, species, table)?;
+    // the answer has a name, so that an edit which lets it through keeps the names that the proof goes by
+    let shape = bits::judge_shape(1, species, table);
+    shape?;
     rounds::judge_repeats(species.taxa, table)
 }
 

@@ -1,5 +1,5 @@
 -- What the public function promises, of the contents at entry and the answer.
---   JudgeImageMeets sp st image r <-> r is the first rule of a load but 7 that fails, at its lowest node or block, or `Sound`
+--   JudgeImageMeets sp st image r <-> r is the first rule of a load but 7 that fails, at its lowest node or block, or `Ok`
 -- Assumes nothing.
 use Rattle.std.specs.Prelude.{ℕ, ◌≡◌, List}
 use Rattle.trees.specs.Rulings.{verdict}

@@ -1,11 +1,11 @@
 -- What each step of the judge means for its ruling. Assumes nothing.
-use Rattle.std.specs.Prelude.{Ok, Err}
+use Rattle.std.specs.Prelude.{Ok, Err, is_err}
 use Prim.Native.Nat.{ℕ, ◌≤◌, ◌<◌}
 use native.Mathlib.Omega.{arith}
 use native.Mathlib.Decide.{ℕ_discrete}
 use mathlib.Core.Path.{◌≡◌, refl, sym, ap, ◌∙◌}
 use mathlib.Core.Logic.{inl, inr}
-use mathlib.Core.Bool.{false}
+use mathlib.Core.Bool.{false, true}
 use mathlib.Core.List.{List, [], ◌∷◌}
 use lib.ListN.{length, get_or}
 use lib.Dec.{eqb}
@@ -134,6 +134,15 @@ module _ {w : Pair} {pl lb : List ℕ} (O : Offerable w pl lb) where
             c
             ∙ rw (lowest_same (nested_by w.sp w.gp pl) (nested w h) q (nested_same O.sound pl lb places_in), lowest_same (parted_by w.sp w.gp pl lb) (parted w h) q (parted_same O.sound pl lb places_in))
             (sym (past_8 ∙ ruling_pass rule9 (rule10 ∷ rule11 ∷ []) fine (every_head (ruling_accepted (rule9 ∷ []) fine fine (sym as_9 ∙ sym d ∙ ap judged_of y)).0)))
+
+-- what stops the judge, by the test whether it does
+pub stops_8 : {w : Pair} {pl lb : List ℕ} → Offerable w pl lb → (r : Judged) → JudgeFittingMeets (length w.sp) w.gt pl lb r → is_err r ≡ true → judged_of r ≡ verdict (descent_rules w every_node (told pl lb))
+stops_8 O (Err f) e h = stopped_8 O (Err f) e f refl
+stops_8 O (Ok x) e h = absurd (cc)
+
+pub stops_9 : {w : Pair} {pl lb : List ℕ} → Offerable w pl lb → (r : Judged) → JudgeFittingMeets (length w.sp) w.gt pl lb r → r ≡ (Ok tt) → (s : Judged) → JudgeHomesMeets w.st w.gt pl s → is_err s ≡ true → judged_of s ≡ verdict (descent_rules w every_node (told pl lb))
+stops_9 O r e z (Err f) d h = stopped_9 O r e z (Err f) d f refl
+stops_9 O r e z (Ok x) d h = absurd (cc)
 
 -- leaves that are known to be at species nodes which carry their taxa are at home
 pub leaves_known : (st gt pl : List ℕ) → Homed st gt pl → accepted fine ≡ verdict (each 9 2 (length gt) (homed_by st gt pl) ∷ [])

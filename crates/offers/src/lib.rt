@@ -37,6 +37,7 @@ fn judge_leaves(
 // The rules of descent 8 to 11 on two sound trees, with tables that are long enough, and nothing counted. `homed`: it is known that
 // each leaf is at its species, and rule 9 is not tested. A legal history is found so by quick tests; the tables of the quick test
 // take at most 16,376 bytes of stack, that of the search 4,094.
+#[tactic(auto, using(crate::proofs::Descents::stops_8, crate::proofs::Descents::stops_9))]
 pub fn judge_rules(
     trees: &Trees<'_>,
     places: &[u16],
@@ -47,8 +48,11 @@ pub fn judge_rules(
     ensures { JudgeRulesMeets (pair_of trees.now) places.now labels.now homed result }
 {
     let p = trees.species.parents.len();
-    fitting::judge_fitting(p, trees.genes.taxa, places, labels)?;
-    judge_leaves(trees.species.taxa, trees.genes.taxa, places, homed)?;
+    // the answers have names, so that an edit which lets them through keeps the names that the proof goes by
+    let fit = fitting::judge_fitting(p, trees.genes.taxa, places, labels);
+    fit?;
+    let leaves = judge_leaves(trees.species.taxa, trees.genes.taxa, places, homed);
+    leaves?;
     nesting::judge_nesting(trees.species.parents, trees.genes.parents, places, labels)
 }
 

@@ -1,8 +1,9 @@
 // One word, or an entry of a table, put among bytes, low byte first.
-ghost use Rattle.std.specs.Prelude.{◌≡◌, ℕ, ◌+◌, ◌*◌, ◌/◌, ◌%◌, ◌<◌, List, [], ◌∷◌, length};
+ghost use Rattle.std.specs.Prelude.{◌≡◌, ℕ, ◌+◌, ◌<◌, List, length};
 ghost use Rattle.blocks.specs.Halves.{low_high_lem};
 ghost use Rattle.words.specs.Words.{offset, Within};
-ghost use Rattle.puts.specs.Puts.{stored, puts, PutLaws, word_laws, long_laws};
+ghost use Rattle.puts.specs.Puts.{stored, PutLaws, word_laws, long_laws};
+ghost use Rattle.puts.specs.Promises.{PutEntryMeets, NextEntryMeets};
 
 use words::at;
 use words::entry::Entry;
@@ -24,8 +25,8 @@ pub trait Put: Entry {
     // The entry put as the words from the one at byte `at` on: the byte at which the word behind it stands.
     fn put(self, image: &mut [u8], at: usize) -> usize
         requires { (i : ℕ) × (at ≡ offset i) × Within image.old i Self.WORDS }
-        ensures put { (i : ℕ) → at ≡ offset i → Within image.old i Self.WORDS → image.new ≡ puts image.old i (words (self ∷ [])) }
-        ensures next { (i : ℕ) → at ≡ offset i → result ≡ offset (i + Self.WORDS) };
+        ensures put { PutEntryMeets Self.WORDS words image.old at self image.new }
+        ensures next { NextEntryMeets Self.WORDS at result };
 
     // Words stand in the order of their entries.
     ghost laws: { PutLaws Self.WORDS words };

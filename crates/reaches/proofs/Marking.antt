@@ -15,7 +15,7 @@ use Rattle.reaches.specs.Knowing.{Knowing}
 pub knowing_start : {par : List ℕ} → Entries par → (c : List ℕ) → Blank c → Knowing par c
 knowing_start E c b = record { size = b.size; known = λ x h n. absurd (n (blank_at b x (omega (arith, E.few)))) }
 
-knowing_turn : {par : List ℕ} (x : ℕ) {c d : List ℕ} → length d ≡ 512 → Reaching par x → Counted c x d → Knowing par c → Knowing par d
+pub knowing_turn : {par : List ℕ} (x : ℕ) {c d : List ℕ} → length d ≡ 512 → Reaching par x → Counted c x d → Knowing par c → Knowing par d
 knowing_turn x size R N K =
     record { size = size; known = λ y h n. elim (ℕ_discrete y x) [ yes e ↦ rw e R | no m ↦ K.known y h (λ z. n (N.there y m ∙ z)) ] }
 

@@ -27,23 +27,25 @@ use Rattle.release.specs.Passing.{Starts}
 -- the first k entries compared: nothing wrong was noted only if they are the same
 pub record Compared {E : Type 0} (old new : List E) (wrong : Bool) (k : ℕ) : Type 0 where
   pub low : k ≤ length old
+  pub long : length new ≡ length old
   pub same : wrong ≡ false → take k old ≡ take k new
 
 module _ {E : Type 0} (old new : List E) where
-  pub compared_none : Compared old new false 0
-  compared_none = record { low = omega arith; same = λ z. refl }
+  pub compared_none : length new ≡ length old → Compared old new false 0
+  compared_none e = record { low = omega arith; long = e; same = λ z. refl }
 
-  pub compared_more : (w d : Bool) (k : ℕ) (v x : E) → Compared old new w k → k < length old → take 1 (drop k new) ≡ v ∷ [] → x ≡ get_or old k x → (d ≡ false → v ≡ x) → Compared old new (w || d) (k + 1)
-  compared_more true d k v x c h e f g = record { low = omega arith; same = λ z. absurd (cc) }
-  compared_more false d k v x c h e f g =
+  pub compared_more : (w d : Bool) (k : ℕ) (x : E) → Compared old new w k → k < length old → x ≡ get_or old k x → (d ≡ false → take 1 (drop k new) ≡ x ∷ []) → Compared old new (w || d) (k + 1)
+  compared_more true d k x c h f g = record { low = omega arith; long = c.long; same = λ z. absurd (cc) }
+  compared_more false d k x c h f g =
       record {
         low = omega arith;
-        same = λ z. take_more old k x h ∙ ap (λ y. take k old ++ y ∷ []) (sym f ∙ sym (g z)) ∙ ap (λ l. l ++ v ∷ []) (c.same refl) ∙ sym (take-add k 1 new ∙ ap (λ l. take k new ++ l) e);
+        long = c.long;
+        same = λ z. take_more old k x h ∙ ap (λ y. take k old ++ y ∷ []) (sym f) ∙ ap (λ l. l ++ x ∷ []) (c.same refl) ∙ sym (take-add k 1 new ∙ ap (λ l. take k new ++ l) (g z));
       }
 
-  pub compared_end : (w : Bool) (k : ℕ) → Compared old new w k → length old ≤ k → length new ≡ length old → not w ≡ true → old ≡ new
-  compared_end true k c h n e = absurd (cc)
-  compared_end false k c h n e = sym (take_all k old h) ∙ c.same refl ∙ take_all k new (omega arith)
+  pub compared_end : (w : Bool) (k : ℕ) → Compared old new w k → length old ≤ k → not w ≡ true → old ≡ new
+  compared_end true k c h e = absurd (cc)
+  compared_end false k c h e = sym (take_all k old h) ∙ c.same refl ∙ take_all k new (omega (arith, c.long))
 
 -- ---- the front of a table
 

@@ -3,7 +3,7 @@
 // whoever is told no looks for the place.
 #![tactic(auto)]
 
-ghost use Rattle.std.specs.Prelude.{◌≡◌, ◌+◌, ◌*◌, ◌<◌, true, false, ◌&&◌, length, eqb, IfSome};
+ghost use Rattle.std.specs.Prelude.{◌≡◌, ◌+◌, ◌*◌, ◌<◌, ◌≤◌, true, false, ◌&&◌, [], ◌∷◌, length, eqb, IfSome};
 ghost use Rattle.blocks.specs.Halves.{words_of};
 ghost use Rattle.blocks.specs.Blocks.{run, word, content};
 ghost use Rattle.words.specs.Words.{after, Within, Comparable};
@@ -22,6 +22,14 @@ fn differ<T: Entry>(a: T, b: T) -> bool
     a != b
 }
 
+// Is entry k of a table whose bytes stand side by side another one? If not, it is this one.
+fn differ_at<T: Entry>(bytes: &[u8], k: usize, entry: T) -> bool
+    requires { 2 * (T.WORDS * k) + 2 * T.WORDS ≤ length bytes.now }
+    ensures { result ≡ false → T.entries (words_of (run (2 * (T.WORDS * k)) (2 * T.WORDS) bytes.now)) ≡ entry ∷ [] }
+{
+    differ(T::nth(bytes, k), entry)
+}
+
 // Is the table whose bytes stand side by side this one?
 fn equal<T: Entry>(bytes: &[u8], table: &[T]) -> bool
     requires { length bytes.now ≡ 2 * (T.WORDS * length table.now) }
@@ -29,7 +37,7 @@ fn equal<T: Entry>(bytes: &[u8], table: &[T]) -> bool
 {
     let mut wrong = false;
     for (k, x) in table.iter().enumerate() {
-        wrong |= differ(T::nth(bytes, k), *x);
+        wrong |= differ_at(bytes, k, *x);
     }
     !wrong
 }

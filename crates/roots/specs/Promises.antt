@@ -1,8 +1,8 @@
 -- What the functions of this crate promise.
 --   parent_rules tree par        == rule 2 of that tree: its two tests
 --   InOrderMeets par r           <-> r is yes exactly if the table has parents first
---   JudgeParentsMeets tree par r <-> r is rule 2 of that tree, refused at its lowest node, or at 65,535 for want of a root, else `Sound`
---   JudgeRootsMeets tree par r   <-> r is the first of rules 2 and 38 of that tree that fails, at its lowest node, else `Sound`
+--   JudgeParentsMeets tree par r <-> r is rule 2 of that tree, refused at its lowest node, or at 65,535 for want of a root, else `Ok`
+--   JudgeRootsMeets tree par r   <-> r is the first of rules 2 and 38 of that tree that fails, at its lowest node, else `Ok`
 -- Assumes nothing.
 use Rattle.std.specs.Prelude.{ℕ, ◌≡◌, ◌↔◌, Bool, List, [], ◌∷◌, length, T}
 use Rattle.trees.specs.Trees.{none}

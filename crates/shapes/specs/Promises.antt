@@ -2,7 +2,7 @@
 --   WantedMeets t r   <-> r is how many children a node with taxon t has in a sound tree
 --   PairedMeets k r   <-> r is rule 3 at a node with k children
 --   MarkedMeets k t r <-> r is rule 4 at a node with k children and taxon t
---   JudgeShapeMeets tree par tax r <-> r is the first of rules 2, 38, 3 and 4 of that tree that fails, at its lowest node, else `Sound`
+--   JudgeShapeMeets tree par tax r <-> r is the first of rules 2, 38, 3 and 4 of that tree that fails, at its lowest node, else `Ok`
 -- Assumes nothing.
 use Rattle.std.specs.Prelude.{ℕ, ◌≡◌, Bool, List}
 use Rattle.trees.specs.Rulings.{verdict}

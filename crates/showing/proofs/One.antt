@@ -3,10 +3,10 @@ use Prim.Native.Nat.{ℕ}
 use mathlib.Core.Path.{◌≡◌, refl, sym, ap, ◌∙◌}
 use mathlib.Core.List.{List, [], ◌∷◌, map}
 use Rattle.trees.specs.One.{Single}
-use Rattle.trees.proofs.One.{both}
+use Rattle.trees.proofs.One.{both, single_value}
 use Rattle.talks.specs.declared.Talk.{Talk}
 use Rattle.showing.specs.Lines.{line_bytes, table_bytes}
-use Rattle.showing.specs.Promises.{Shown, shown, unspoiled, PutTextMeets, PutLineMeets, PutTableMeets}
+use Rattle.showing.specs.Promises.{Shown, shown, unspoiled, PutTextMeets, PutLineMeets, PutTableMeets, WideMeets}
 use Rattle.showing.specs.declared.Line.{Line}
 use Rattle.showing.specs.contracts.U16Number.TheImpl as words
 use Rattle.showing.specs.contracts.U32Number.TheImpl as longs
@@ -15,6 +15,9 @@ use Rattle.showing.specs.contracts.U8Number.TheImpl as bytes
 -- the talk and the memory
 shown_one : (s : Shown) → Single (λ (r : Talk × List ℕ). ◌≡◌ {A = Shown} (record { talk = r.0; memory = r.1 }) s)
 shown_one s a b p q = let e = p ∙ sym q in both a b (ap (λ (x : Shown). x.talk) e) (ap (λ (x : Shown). x.memory) e)
+
+pub wide_one : {E : Type 0} (number : E → ℕ) (x : E) → Single (WideMeets number x)
+wide_one number x = single_value _
 
 module _ (m : List ℕ) (talk : Talk) where
   pub put_text_one : (bytes : List ℕ) → Single (λ (r : Talk × List ℕ). PutTextMeets m talk bytes r.0 r.1)

@@ -4,6 +4,7 @@
 --   shown m talk bytes  == the bytes are put, and the talk says how many are held
 --   unspoiled m talk bytes == the same; of a spoiled talk nothing is put
 --   PutTextMeets, PutLineMeets, PutTableMeets <-> a text, a line, a table; PutTableMeets is the promise of put_table, of the numbers that the entries are
+--   WideMeets number x r <-> r is the number that the entry x is
 -- Assumes nothing.
 use Rattle.std.specs.Prelude.{ℕ, ◌≡◌, List}
 use Rattle.trees.specs.Lists.{pick}
@@ -32,3 +33,6 @@ PutLineMeets m talk l r m' = ◌≡◌ {A = Shown} (record { talk = r; memory = 
 
 abbrev pub PutTableMeets : List ℕ → Talk → List ℕ → Talk → List ℕ → Type 0
 PutTableMeets m talk table r m' = ◌≡◌ {A = Shown} (record { talk = r; memory = m' }) (unspoiled m talk (table_bytes table))
+
+abbrev pub WideMeets : {E : Type 0} → (E → ℕ) → E → ℕ → Type 0
+WideMeets number x r = r ≡ number x

@@ -5,7 +5,7 @@
 ghost use Rattle.std.specs.Prelude.{◌≡◌, ℕ, map};
 ghost use Rattle.showing.specs.Holding.{Held, held, put_byte_lem, put_bytes_lem};
 ghost use Rattle.showing.specs.Lines.{numeral, spaced, word_bytes, all_spaced, entry_bytes};
-ghost use Rattle.showing.specs.Promises.{PutTextMeets, PutLineMeets, PutTableMeets};
+ghost use Rattle.showing.specs.Promises.{PutTextMeets, PutLineMeets, PutTableMeets, WideMeets};
 
 use talks::{Memory, Talk, holding};
 
@@ -129,7 +129,7 @@ pub trait Number: Copy {
     ghost number: { Self → ℕ };
 
     fn wide(self) -> u64
-        ensures { result ≡ number self };
+        ensures { WideMeets number self result };
 }
 
 impl Number for u8 {

@@ -1,5 +1,5 @@
 -- What the functions of this crate promise.
---   JudgeRepeatsMeets st r   <-> r is rule 5, over the taxa alone: refused at the lowest node that fails it, else `Sound`
+--   JudgeRepeatsMeets st r   <-> r is rule 5, over the taxa alone: refused at the lowest node that fails it, else `Ok`
 --   JudgeKnownMeets st gt r  <-> r is rule 6, over the taxa alone
 --   SpeciesOfMeets st t r    <-> r is the lowest species node that carries t, or nowhere
 -- Assumes nothing.

@@ -1,14 +1,15 @@
 -- One answer only: any two results that meet a contract of this crate are equal. Assumes nothing.
 use Prim.Native.Nat.{ℕ, ◌*◌}
-use lib.ListN.{length}
-use Rattle.blocks.specs.Halves.{longs_of}
+use lib.ListN.{length, get_or}
 use native.Mathlib.Omega.{arith}
-use mathlib.Core.Path.{◌≡◌, sym, ◌∙◌}
+use mathlib.Core.Path.{◌≡◌, sym, ap, ◌∙◌}
 use mathlib.Core.Logic.{⊎_elim}
-use mathlib.Core.List.{List}
+use mathlib.Core.List.{List, [], ◌∷◌}
 use Rattle.trees.specs.One.{Single}
 use Rattle.trees.proofs.One.{single_value}
-use Rattle.words.specs.Promises.{OffsetOfMeets, NextMeets, TogetherMeets, BytesOfMeets, LongAtMeets, LongFromMeets, CopyMeets, ReadMeets, CopyWordsMeets, CopyLongsMeets, NthWordMeets, ReadWordsMeets, ReadLongsMeets, BlankFromMeets}
+use Rattle.words.specs.Promises.{OffsetOfMeets, NextMeets, TogetherMeets, BytesOfMeets, LongAtMeets, LongFromMeets, NthMeets, FromWordMeets, CopyMeets, ReadMeets, CopyWordsMeets, CopyLongsMeets, NthWordMeets, ReadWordsMeets, ReadLongsMeets, BlankFromMeets}
+use Rattle.words.specs.contracts.entry.U16Entry.TheImpl as words
+use Rattle.words.specs.contracts.entry.U32Entry.TheImpl as longs
 
 -- ---- where a word stands
 
@@ -57,16 +58,27 @@ read_longs_one image i out = single_value _
 pub blank_from_one : (image : List ℕ) (i : ℕ) → Single (BlankFromMeets image i)
 blank_from_one image i = single_value _
 
--- ---- what `copy` and `read` promise of numbers of 16 and of 32 bits
+-- ---- an entry
 
-pub copy_words_meets : (bytes out left : List ℕ) → CopyMeets (λ w. w) bytes out left → CopyWordsMeets bytes out left
+same_entry : {E : Type 0} (l : List E) (a b : E) → l ≡ a ∷ [] → l ≡ b ∷ [] → a ≡ b
+same_entry l a b p q = ap (λ m. get_or m 0 a) (sym p ∙ q)
+
+pub nth_one : {E : Type 0} (size : ℕ) (entries : List ℕ → List E) (bytes : List ℕ) (k : ℕ) → Single (NthMeets size entries bytes k)
+nth_one size entries bytes k a b p q = same_entry _ a b p q
+
+pub from_word_one : {E : Type 0} (size : ℕ) (entries : List ℕ → List E) (image : List ℕ) (i : ℕ) → Single (FromWordMeets size entries image i)
+from_word_one size entries image i a b p q = same_entry _ a b p q
+
+-- ---- what `copy` and `read` promise of numbers of 16 and of 32 bits, whose words and entries are what the two impls say
+
+pub copy_words_meets : (bytes out left : List ℕ) → CopyMeets words.ghosts.entries bytes out left → CopyWordsMeets bytes out left
 copy_words_meets bytes out left h = h
 
-pub copy_longs_meets : (bytes out left : List ℕ) → CopyMeets longs_of bytes out left → CopyLongsMeets bytes out left
+pub copy_longs_meets : (bytes out left : List ℕ) → CopyMeets longs.ghosts.entries bytes out left → CopyLongsMeets bytes out left
 copy_longs_meets bytes out left h = h
 
-pub read_words_meets : (image : List ℕ) (i : ℕ) (out left : List ℕ) → ReadMeets 1 (λ w. w) image i out left → ReadWordsMeets image i out left
+pub read_words_meets : (image : List ℕ) (i : ℕ) (out left : List ℕ) → ReadMeets words.ghosts.WORDS words.ghosts.entries image i out left → ReadWordsMeets image i out left
 read_words_meets image i out left h = let z : 1 * length out ≡ length out = omega arith in rw z at h
 
-pub read_longs_meets : (image : List ℕ) (i : ℕ) (out left : List ℕ) → ReadMeets 2 longs_of image i out left → ReadLongsMeets image i out left
+pub read_longs_meets : (image : List ℕ) (i : ℕ) (out left : List ℕ) → ReadMeets longs.ghosts.WORDS longs.ghosts.entries image i out left → ReadLongsMeets image i out left
 read_longs_meets image i out left h = h

@@ -7,13 +7,15 @@
 --   LongFromMeets s at r           <-> the same, and its high word stands two bytes on
 --   CopyMeets entries bytes out left       <-> the lent table holds the entries that the bytes are
 --   ReadMeets size entries image i out left <-> the lent table holds the entries, of `size` words each, from word i on
+--   NthMeets size entries bytes k r        <-> r is entry k, of `size` words, of the table that the bytes hold side by side
+--   FromWordMeets size entries image i r   <-> r is the entry of `size` words whose first word is word i
 -- and at the two kinds of entries:
 --   CopyWordsMeets bytes out left  <-> the lent table holds the numbers of 16 bits that the bytes are; CopyLongsMeets: those of 32 bits
 --   NthWordMeets image i r         <-> r is word i
 --   ReadWordsMeets image i out left <-> the lent table holds the words from i on; ReadLongsMeets: the numbers of two words each
 --   BlankFromMeets image i r       <-> r says whether all words from i on are zero
 -- Assumes nothing.
-use Rattle.std.specs.Prelude.{ℕ, ◌+◌, ◌*◌, ◌≡◌, Bool, List, length, get_or, drop}
+use Rattle.std.specs.Prelude.{ℕ, ◌+◌, ◌*◌, ◌≡◌, Bool, List, [], ◌∷◌, length, get_or, drop}
 use Rattle.blocks.specs.Halves.{words_of, longs_of}
 use Rattle.blocks.specs.Blocks.{run, word, content}
 use Rattle.blocks.specs.Image.{blank}
@@ -42,6 +44,12 @@ CopyMeets entries bytes out left = left ≡ entries (words_of bytes)
 
 abbrev pub ReadMeets : {E : Type 0} → ℕ → (List ℕ → List E) → List ℕ → ℕ → List E → List E → Type 0
 ReadMeets size entries image i out left = left ≡ entries (run i (size * length out) (content image))
+
+abbrev pub NthMeets : {E : Type 0} → ℕ → (List ℕ → List E) → List ℕ → ℕ → E → Type 0
+NthMeets size entries bytes k r = entries (words_of (run (2 * (size * k)) (2 * size) bytes)) ≡ r ∷ []
+
+abbrev pub FromWordMeets : {E : Type 0} → ℕ → (List ℕ → List E) → List ℕ → ℕ → E → Type 0
+FromWordMeets size entries image i r = entries (run i size (content image)) ≡ r ∷ []
 
 abbrev pub CopyWordsMeets : List ℕ → List ℕ → List ℕ → Type 0
 CopyWordsMeets bytes out left = left ≡ words_of bytes

@@ -1,10 +1,10 @@
 // The entries of a table: numbers of 16 bits, a word each, and of 32 bits, two words each, the low one first.
-ghost use Rattle.std.specs.Prelude.{◌≡◌, ℕ, ◌+◌, ◌*◌, ◌≤◌, true, List, [], ◌∷◌, length};
+ghost use Rattle.std.specs.Prelude.{◌≡◌, ℕ, ◌+◌, ◌*◌, ◌≤◌, true, List, length};
 ghost use Rattle.std.proofs.lemmas.Bool.{eqb-true};
-ghost use Rattle.blocks.specs.Halves.{words_of, longs_of};
-ghost use Rattle.blocks.specs.Blocks.{run, content};
+ghost use Rattle.blocks.specs.Halves.{longs_of};
 ghost use Rattle.words.specs.Words.{Within};
 ghost use Rattle.words.specs.Entries.{EntryLaws, word_laws, long_laws};
+ghost use Rattle.words.specs.Promises.{NthMeets, FromWordMeets};
 
 use crate::{at, piece, read};
 use blocks::word;
@@ -21,12 +21,12 @@ pub trait Entry: Copy + Ord {
     // Entry k of a table whose bytes stand side by side.
     fn nth(bytes: &[u8], k: usize) -> Self
         requires { 2 * (WORDS * k) + 2 * WORDS ≤ length bytes.now }
-        ensures { entries (words_of (run (2 * (WORDS * k)) (2 * WORDS) bytes.now)) ≡ result ∷ [] };
+        ensures { NthMeets WORDS entries bytes.now k result };
 
     // The entry whose first word is word i.
     fn from_word(image: &[u8], i: usize) -> Self
         requires { Within image.now i WORDS }
-        ensures { entries (run i WORDS (content image.now)) ≡ result ∷ [] };
+        ensures { FromWordMeets WORDS entries image.now i result };
 
     // Entries stand in the order of their words.
     ghost laws: { EntryLaws WORDS entries };
